@@ -1,8 +1,4 @@
 //! The automaton over bytes.
-//!
-//! The layers above may rely on a build holding just the dictionary of its patterns, and on each
-//! search giving the whole list of matches that the definitions give for that dictionary, in the
-//! haystack as the automaton's option reads it.
 
 ghost use Rattle.std.specs.Prelude.{◌≡◌, ◌≢◌, ◌⊎◌, ℕ, false, true, List, [], IfOk, IfErr, OnOk, OnErr, length, map, take};
 ghost use Rattle.std.specs.Iterator.{IsFinite};
@@ -44,6 +40,7 @@ use crate::bytewise::states::States;
 use daachorse_core::MatchKind;
 use daachorse_core::errors::Result;
 use daachorse_prefilter::prefilter::{Prefilter, clone_filter};
+use daachorse_prefilter::skipping::Skipping;
 use daachorse_search::find::{FindWalk, find_in};
 use daachorse_search::find_stepper::FindStanding;
 use daachorse_search::haystack::Bytes;
@@ -54,30 +51,27 @@ use daachorse_search::overlapping::{
 };
 use daachorse_search::overlapping_stepper::OverlappingStanding;
 use daachorse_search::source;
-use daachorse_prefilter::skipping::Skipping;
 use std::alloc::{Allocator, Global};
 use std::hash::{Hash, Hasher};
 use std::marker::Model;
 
 /// An automaton that finds many patterns in bytes at once.
 ///
-/// It is that of Aho and Corasick (1975): a trie of the patterns, with failure links.
+/// It is that of Aho and Corasick (1975), a trie of the patterns with failure links, in a double
+/// array laid out as by Kanda, Akabe and Oda (arXiv 2207.13870). Its units are bytes, and the
+/// places of a match count bytes. An element takes 12 bytes, and an output of a `u32` 12.
 ///
-/// The units of a search and the places of a match are bytes. Its states stand in a double array
-/// whose layout is that of Kanda, Akabe and Oda (arXiv 2207.13870). An element takes 12 bytes, an
-/// output of a `u32` 12, and the filter of an automaton that keeps one is beside them. Searches
-/// take no memory; `quick_start` builds one and prints what it finds.
-///
-/// Where it was built to disregard the case of ASCII letters, each search reads A to Z of its
-/// haystack as a to z, and every other byte as it is.
+/// Searches and steppers need [`MatchKind::Standard`], but [`Self::leftmost_find_iter`] needs
+/// another kind, and [`Self::find`], [`Self::is_match`] and [`Self::replace_all`] take any. None
+/// takes memory. A standard search takes at most two turns, looks at one state, for each byte.
 #[derive(Drop)]
 pub struct DoubleArrayAhoCorasick<V: Copy, A: Allocator = Global> {
     states: States<V, A>,
-    // Haystacks are read folded. Its patterns then are folded too.
+    // Whether A to Z of a haystack are read as a to z. The patterns then have no A to Z.
     folds: bool,
-    // Passes at the beginning of each pattern, if it is there.
+    // Passes at the beginning of each pattern.
     filter: Option<Prefilter<A>>,
-    // Of each element how many bytes lead to it; empty where depths are not cached.
+    // The depth of each element in bytes, or nothing.
     depths: Vec<u32, A>,
 }
 
@@ -92,22 +86,8 @@ impl<V: Copy, A: Allocator> Model for DoubleArrayAhoCorasick<V, A> {
 }
 
 impl<V: Copy, A: Allocator + Copy> DoubleArrayAhoCorasick<V, A> {
-    /// Builds an automaton of these patterns, for the standard searches.
-    ///
-    /// Pattern `i`, counted from 0, has the value that the index `i` converts to. Equal patterns
-    /// are all kept. The automaton keeps `alloc` and takes its memory from it. The default
-    /// builder's [`DoubleArrayAhoCorasickBuilder::build`] does the same.
-    ///
-    /// The work and the memory grow with the texts that begin a pattern; neither has a bound by
-    /// proof. `quick_start` calls it.
-    ///
-    /// # Conditions
-    ///
-    /// The iterator over the patterns ends.
-    ///
-    /// # Errors
-    ///
-    /// Those of [`DoubleArrayAhoCorasickBuilder::build`].
+    /// Builds an automaton for the standard searches, as the default builder's
+    /// [`DoubleArrayAhoCorasickBuilder::build`] does.
     pub fn new<'p, P: IntoIterator<Item = &'p [u8]>>(alloc: A, patterns: P) -> Result<Self>
     where
         P::IntoIter: Drop,
@@ -124,22 +104,8 @@ impl<V: Copy, A: Allocator + Copy> DoubleArrayAhoCorasick<V, A> {
         DoubleArrayAhoCorasickBuilder::new().build(alloc, patterns)
     }
 
-    /// Builds an automaton of these patterns, each with its value, for the standard searches.
-    ///
-    /// Equal patterns are all kept, and so are equal values. The automaton keeps `alloc` and takes
-    /// its memory from it. The default builder's
-    /// [`DoubleArrayAhoCorasickBuilder::build_with_values`] does the same.
-    ///
-    /// The work and the memory grow with the texts that begin a pattern; neither has a bound by
-    /// proof. `daachorse_tests` runs an example.
-    ///
-    /// # Conditions
-    ///
-    /// The iterator over the patterns ends.
-    ///
-    /// # Errors
-    ///
-    /// Those of [`DoubleArrayAhoCorasickBuilder::build_with_values`].
+    /// Builds an automaton for the standard searches, as the default builder's
+    /// [`DoubleArrayAhoCorasickBuilder::build_with_values`] does.
     pub fn with_values<'p, P: IntoIterator<Item = (&'p [u8], V)>>(
         alloc: A,
         patvals: P,
@@ -159,8 +125,7 @@ impl<V: Copy, A: Allocator + Copy> DoubleArrayAhoCorasick<V, A> {
 }
 
 impl<V: Copy, A: Allocator + Copy> DoubleArrayAhoCorasick<V, A> {
-    /// The automaton of these states and this filter, if there is one, with no depths cached. It
-    /// reads haystacks folded where `folds` says so.
+    /// An automaton of these parts, with no depths cached.
     pub(crate) fn of_states(
         alloc: A,
         states: States<V, A>,
@@ -182,22 +147,8 @@ impl<V: Copy, A: Allocator + Copy> DoubleArrayAhoCorasick<V, A> {
         }
     }
 
-    /// Computes the depth of each element in bytes, and keeps the depths for steppers.
-    ///
-    /// A stepper that is made from then on returns the depth of its state. After an error the
-    /// automaton is unchanged.
-    ///
-    /// The depths take four bytes for each element of the double array. With `ab` and `b`, a
-    /// stepper of [`Self::find_overlapping_stepper`] that is given `a`, `b` and `b` tells the
-    /// depths 1, 2 and 1, and before that 0 (`daachorse_tests` runs this).
-    ///
-    /// # Conditions
-    ///
-    /// The automaton is for the standard searches: its kind is [`MatchKind::Standard`].
-    ///
-    /// # Errors
-    ///
-    /// An allocation failed.
+    /// Computes the depth of each state in bytes, which steppers made after that report. It takes
+    /// four bytes for each element. Fails only if an allocation fails.
     pub fn cache_depths(&mut self) -> Result<()>
         requires { kind_of self.old ≡ Standard }
         ensures states { states_of self.new ≡ states_of self.old }
@@ -212,18 +163,11 @@ impl<V: Copy, A: Allocator + Copy> DoubleArrayAhoCorasick<V, A> {
         Ok(())
     }
 
-    /// Lists all patterns that the automaton holds, each with its value.
+    /// Lists the patterns with their values in byte order, equal ones in order of registration.
     ///
-    /// They come in byte order, and equal ones in order of registration. A build for
-    /// [`MatchKind::LeftmostFirst`] leaves out each pattern that extends an earlier one.
-    ///
-    /// The memory of the walk over the elements is taken at once, and that of each pattern as it is
-    /// given. Of `ab`, `a` and `ab` the listing is `a`, `ab` and `ab`, with the values 1, 0 and 2
-    /// (`daachorse_tests` runs this).
-    ///
-    /// # Errors
-    ///
-    /// An allocation failed.
+    /// An automaton for [`MatchKind::LeftmostFirst`] holds no pattern that extends one registered
+    /// earlier. Of `ab`, `a` and `ab` the list is `a`, `ab` and `ab` with the values 1, 0 and 2.
+    /// The call and each item fail only if an allocation fails.
     pub fn iter<'a>(&'a self, alloc: A) -> Result<PatternIterator<'a, V, A>>
         ensures ok { IfOk result (λ patterns. IsListing (dictionary_of self.entry.now) patterns) }
         ensures err { IfErr result IsOutOfMemory }
@@ -231,15 +175,7 @@ impl<V: Copy, A: Allocator + Copy> DoubleArrayAhoCorasick<V, A> {
         self.states.pattern_iter(alloc)
     }
 
-    /// Makes a copy of the automaton, in memory of its own.
-    ///
-    /// A clone is an automaton that equals its original; it takes as much memory, and is not the
-    /// trait's `clone`, since memory may be refused. `daachorse_tests` compares clones with their
-    /// originals.
-    ///
-    /// # Errors
-    ///
-    /// An allocation failed.
+    /// Returns a copy in memory of its own. It is no `Clone::clone`, since an allocation may fail.
     pub fn clone(&self) -> Result<Self>
         ensures same { IfOk result (λ a. a ≡ self.now) }
         ensures err { IfErr result IsOutOfMemory }
@@ -254,8 +190,7 @@ impl<V: Copy, A: Allocator + Copy> DoubleArrayAhoCorasick<V, A> {
     }
 }
 
-/// Automata are equal where all that they keep is equal, the option, the filter and the cached
-/// depths included.
+/// Automata are equal if all that they hold is equal, the cached depths included.
 impl<V: Copy + PartialEq, A: Allocator> PartialEq for DoubleArrayAhoCorasick<V, A> {
     ghost use Rattle.daachorse_bytewise_states.specs.Equality.{parts_per};
     ghost use Rattle.daachorse_array.specs.Automata.{automaton_per};
@@ -301,38 +236,27 @@ impl<V: Copy + Hash, A: Allocator> Hash for DoubleArrayAhoCorasick<V, A> {
 
 impl<V: Copy, A: Allocator> DoubleArrayAhoCorasick<V, A> {
     /// Returns the kind of searches that the automaton is for.
-    ///
-    /// It is kept, and nothing is counted.
     pub fn match_kind(&self) -> MatchKind
         ensures { result ≡ kind_of self.now }
     {
         self.states.kind()
     }
 
-    /// Returns whether the searches disregard the case of ASCII letters.
-    ///
-    /// It is kept, and nothing is read. [`DoubleArrayAhoCorasickBuilder::ascii_case_insensitive`]
-    /// sets it for a build.
+    /// Returns whether searches ignore the case of ASCII letters.
     pub fn is_ascii_case_insensitive(&self) -> bool
         ensures { result ≡ self.now.folds }
     {
         self.folds
     }
 
-    /// Returns the number of states.
-    ///
-    /// A state stands for each text that begins a pattern of the automaton, the empty text
-    /// included.
-    ///
-    /// It is kept, and nothing is counted. Of `ab` and `a` there are 3 states (`daachorse_tests`
-    /// runs this).
+    /// Returns the number of states: one for each prefix of a pattern, the empty one included.
     pub fn num_states(&self) -> usize
         ensures { HasPrefixes (dictionary_of self.now) result }
     {
         self.states.num_states() as usize
     }
 
-    /// What a search in a slice asks: the filter, if there is one, behind an open gate.
+    /// The prefilter for a new search in a slice.
     #[inline(always)]
     fn skipping<'a>(&'a self) -> Skipping<'a, A>
         ensures asks { BeginsAsking self.entry.now.filter result }
@@ -343,19 +267,9 @@ impl<V: Copy, A: Allocator> DoubleArrayAhoCorasick<V, A> {
 
     /// Finds non-overlapping matches in a haystack, each of which ends as early as possible.
     ///
-    /// The search goes on from the end of each match. Of the matches that end together it takes the
-    /// longest, and of equal patterns the one that was registered first. With an empty pattern
-    /// there is one empty match at each boundary.
-    ///
-    /// Places count bytes. Of the patterns `bcd`, `ab` and `a`, in this order, in the haystack
-    /// `abcd` it finds `a` from 0 to 1 and `bcd` from 1 to 4 (`daachorse_tests` runs this).
-    ///
-    /// It takes at most two turns, which are looks at one state, for each byte of the haystack, and
-    /// no memory.
-    ///
-    /// # Conditions
-    ///
-    /// The automaton is for the standard searches: its kind is [`MatchKind::Standard`].
+    /// Of matches that end together it takes the longest, and of equal patterns the first
+    /// registered. An empty pattern matches once at each boundary. Of `bcd`, `ab` and `a` in `abcd`
+    /// it finds `a` from 0 to 1 and `bcd` from 1 to 4.
     #[inline(always)]
     #[tactic(auto, using(daachorse_bytewise_states::proofs::DeadLaws::alive))]
     pub fn find_iter<'a>(&'a self, haystack: &'a [u8]) -> FindSliceIterator<'a, V, A>
@@ -371,19 +285,8 @@ impl<V: Copy, A: Allocator> DoubleArrayAhoCorasick<V, A> {
         )
     }
 
-    /// Finds non-overlapping matches in the bytes that `haystack` yields.
-    ///
-    /// They are the matches of [`Self::find_iter`]. Each is returned before a byte past its end is
-    /// taken; with an empty pattern, before the byte behind its place is taken.
-    ///
-    /// Places count bytes from where the source stands. It takes at most two turns, which are looks
-    /// at one state, for each byte that it takes, and no memory. `daachorse_tests` runs it over the
-    /// same haystacks as [`Self::find_iter`].
-    ///
-    /// # Conditions
-    ///
-    /// The automaton is for the standard searches: its kind is [`MatchKind::Standard`]. What may be
-    /// read of the source is a condition of the search's `next`.
+    /// Finds the matches of [`Self::find_iter`] in the bytes that `haystack` yields, each before a
+    /// byte past its end is taken. Places count from where the source stands.
     #[inline(always)]
     #[tactic(auto, using(daachorse_bytewise_states::proofs::DeadLaws::alive))]
     pub fn find_iter_from_iter<'a, P: Iterator<Item = u8>>(
@@ -401,21 +304,11 @@ impl<V: Copy, A: Allocator> DoubleArrayAhoCorasick<V, A> {
         )
     }
 
-    /// Finds every match in a haystack, also those that overlap.
+    /// Finds every match in a haystack, by rising ends; they may overlap.
     ///
-    /// Matches come by rising ends. Of those that end together the longest comes first, and equal
-    /// patterns come in order of registration.
-    ///
-    /// Places count bytes. Of the patterns `bcd`, `ab` and `a`, in this order, in the haystack
-    /// `abcd` it finds `a` from 0 to 1, `ab` from 0 to 2 and `bcd` from 1 to 4 (`daachorse_tests`
-    /// runs this).
-    ///
-    /// It takes at most two turns, which are looks at one state, for each byte of the haystack, and
-    /// no memory.
-    ///
-    /// # Conditions
-    ///
-    /// The automaton is for the standard searches: its kind is [`MatchKind::Standard`].
+    /// Of matches that end together the longest comes first, and equal patterns come in order of
+    /// registration. Of `bcd`, `ab` and `a` in `abcd` it finds `a` from 0 to 1, `ab` from 0 to 2
+    /// and `bcd` from 1 to 4.
     #[inline(always)]
     #[tactic(auto, using(daachorse_bytewise_states::proofs::DeadLaws::alive))]
     pub fn find_overlapping_iter<'a>(
@@ -434,19 +327,8 @@ impl<V: Copy, A: Allocator> DoubleArrayAhoCorasick<V, A> {
         )
     }
 
-    /// Finds every match in the bytes that `haystack` yields.
-    ///
-    /// They are the matches of [`Self::find_overlapping_iter`]. Each is returned before a byte past
-    /// its end is taken.
-    ///
-    /// Places count bytes from where the source stands. It takes at most two turns, which are looks
-    /// at one state, for each byte that it takes, and no memory. `daachorse_tests` runs it over the
-    /// same haystacks as [`Self::find_overlapping_iter`].
-    ///
-    /// # Conditions
-    ///
-    /// The automaton is for the standard searches: its kind is [`MatchKind::Standard`]. What may be
-    /// read of the source is a condition of the search's `next`.
+    /// Finds the matches of [`Self::find_overlapping_iter`] in the bytes that `haystack` yields,
+    /// each before a byte past its end is taken. Places count from where the source stands.
     #[inline(always)]
     #[tactic(auto, using(daachorse_bytewise_states::proofs::DeadLaws::alive))]
     pub fn find_overlapping_iter_from_iter<'a, P: Iterator<Item = u8>>(
@@ -464,21 +346,10 @@ impl<V: Copy, A: Allocator> DoubleArrayAhoCorasick<V, A> {
         )
     }
 
-    /// Finds the longest match at each end in a haystack.
+    /// Finds the longest match at each end in a haystack, by rising ends; they may overlap.
     ///
-    /// Of equal patterns it takes the one that was registered first. Matches come by rising ends,
-    /// and may overlap.
-    ///
-    /// Places count bytes. Of the patterns `abcd`, `cd` and `bc` in the haystack `abcd` it finds
-    /// `bc` from 1 to 3 and `abcd` from 0 to 4, and not `cd`, which ends `abcd` (`daachorse_tests`
-    /// runs this).
-    ///
-    /// It takes at most two turns, which are looks at one state, for each byte of the haystack, and
-    /// no memory.
-    ///
-    /// # Conditions
-    ///
-    /// The automaton is for the standard searches: its kind is [`MatchKind::Standard`].
+    /// Of equal patterns it takes the first registered. Of `abcd`, `cd` and `bc` in `abcd` it finds
+    /// `bc` from 1 to 3 and `abcd` from 0 to 4, but not `cd`.
     #[inline(always)]
     #[tactic(auto, using(daachorse_bytewise_states::proofs::DeadLaws::alive))]
     pub fn find_overlapping_no_suffix_iter<'a>(
@@ -497,19 +368,8 @@ impl<V: Copy, A: Allocator> DoubleArrayAhoCorasick<V, A> {
         )
     }
 
-    /// Finds the longest match at each end in the bytes that `haystack` yields.
-    ///
-    /// They are the matches of [`Self::find_overlapping_no_suffix_iter`]. Each is returned before a
-    /// byte past its end is taken.
-    ///
-    /// Places count bytes from where the source stands. It takes at most two turns, which are looks
-    /// at one state, for each byte that it takes, and no memory. `daachorse_tests` runs it over the
-    /// same haystacks as [`Self::find_overlapping_no_suffix_iter`].
-    ///
-    /// # Conditions
-    ///
-    /// The automaton is for the standard searches: its kind is [`MatchKind::Standard`]. What may be
-    /// read of the source is a condition of the search's `next`.
+    /// Finds the matches of [`Self::find_overlapping_no_suffix_iter`] in the bytes that `haystack`
+    /// yields, each before a byte past its end is taken. Places count from where the source stands.
     #[inline(always)]
     #[tactic(auto, using(daachorse_bytewise_states::proofs::DeadLaws::alive))]
     pub fn find_overlapping_no_suffix_iter_from_iter<'a, P: Iterator<Item = u8>>(
@@ -529,23 +389,11 @@ impl<V: Copy, A: Allocator> DoubleArrayAhoCorasick<V, A> {
 
     /// Finds non-overlapping matches in a haystack, each of which starts as early as possible.
     ///
-    /// The search goes on from the end of each match. At a start it takes the longest pattern that
-    /// the automaton holds, and of equal patterns the one that was registered first. For
-    /// [`MatchKind::LeftmostFirst`], which leaves out each pattern that extends an earlier one,
-    /// that is the earliest registered pattern that occurs there. An empty match right behind a
-    /// nonempty one is passed over.
-    ///
-    /// Places count bytes. Of the patterns `ab`, `a` and `abcd`, in this order, in the haystack
-    /// `abcd` an automaton for [`MatchKind::LeftmostLongest`] finds `abcd`, and one for
-    /// [`MatchKind::LeftmostFirst`] finds `ab` (`daachorse_tests` runs this).
-    ///
-    /// It takes no memory. After `g` matches it has taken at most two turns, which are looks at one
-    /// state, for each byte that it passed, and four times the bytes of the longest pattern for
-    /// each match.
-    ///
-    /// # Conditions
-    ///
-    /// The automaton is for a leftmost search: its kind is not [`MatchKind::Standard`].
+    /// Of matches that start together [`MatchKind::LeftmostFirst`] takes the first registered, and
+    /// [`MatchKind::LeftmostLongest`] the longest, of equal patterns the first registered. Of `ab`,
+    /// `a` and `abcd` in `abcd` these are `ab` and `abcd`. No empty match comes right after a
+    /// nonempty one. It takes at most two turns for each byte passed, and for each match four for
+    /// each byte of the longest pattern.
     #[inline(always)]
     #[tactic(auto, using(daachorse_bytewise_states::proofs::DeadLaws::is_leftmost_automaton))]
     pub fn leftmost_find_iter<'a>(&'a self, haystack: &'a [u8]) -> LeftmostFindIterator<'a, V, A>
@@ -562,15 +410,6 @@ impl<V: Copy, A: Allocator> DoubleArrayAhoCorasick<V, A> {
     }
 
     /// Starts the search of [`Self::find_iter`], to be given one byte at a time.
-    ///
-    /// The stepper is given one byte at a time by `consume`; after each, `matches` tells the match
-    /// that ends there, if there is one. In all it takes at most two turns, which are looks at one
-    /// state, for each byte that it is given, and no memory. `daachorse_tests` runs it over the
-    /// haystacks of [`Self::find_iter`].
-    ///
-    /// # Conditions
-    ///
-    /// The automaton is for the standard searches: its kind is [`MatchKind::Standard`].
     #[inline(always)]
     #[tactic(auto, using(daachorse_bytewise_states::proofs::DeadLaws::alive))]
     pub fn find_stepper<'a>(&'a self) -> FindStepper<'a, V>
@@ -582,15 +421,6 @@ impl<V: Copy, A: Allocator> DoubleArrayAhoCorasick<V, A> {
     }
 
     /// Starts the search of [`Self::find_overlapping_iter`], to be given one byte at a time.
-    ///
-    /// The stepper is given one byte at a time by `consume`; after each, `matches` tells all
-    /// matches that end there, the longest first. In all it takes at most two turns, which are
-    /// looks at one state, for each byte that it is given, and no memory. `daachorse_tests` runs it
-    /// over the haystacks of [`Self::find_overlapping_iter`].
-    ///
-    /// # Conditions
-    ///
-    /// The automaton is for the standard searches: its kind is [`MatchKind::Standard`].
     #[inline(always)]
     #[tactic(auto, using(daachorse_bytewise_states::proofs::DeadLaws::alive))]
     pub fn find_overlapping_stepper<'a>(&'a self) -> FindOverlappingStepper<'a, V>
@@ -601,14 +431,8 @@ impl<V: Copy, A: Allocator> DoubleArrayAhoCorasick<V, A> {
         FindOverlappingStepper::new(self.states.standard(), &self.depths, self.folds)
     }
 
-    /// Goes on with a search of [`Self::find_stepper`] from where one over this automaton stood.
-    ///
-    /// What was read before counts on: the places of later matches count bytes from the beginning
-    /// of the whole haystack. It takes no memory and no turn.
-    ///
-    /// # Conditions
-    ///
-    /// The automaton is for the standard searches, and a stepper over it stood so.
+    /// Resumes a search of [`Self::find_stepper`] over this automaton. Places still count from the
+    /// beginning of the whole haystack.
     #[inline(always)]
     pub fn resume_find_stepper<'a>(&'a self, standing: FindStanding) -> FindStepper<'a, V>
         requires kind { kind_of self.now ≡ Standard }
@@ -623,15 +447,8 @@ impl<V: Copy, A: Allocator> DoubleArrayAhoCorasick<V, A> {
         FindStepper::resume(self.states.standard(), &self.depths, standing, self.folds)
     }
 
-    /// Goes on with a search of [`Self::find_overlapping_stepper`] from where one over this automaton
-    /// stood.
-    ///
-    /// What was read before counts on: the places of later matches count bytes from the beginning
-    /// of the whole haystack. It takes no memory and no turn.
-    ///
-    /// # Conditions
-    ///
-    /// The automaton is for the standard searches, and a stepper over it stood so.
+    /// Resumes a search of [`Self::find_overlapping_stepper`] over this automaton. Places still
+    /// count from the beginning of the whole haystack.
     #[inline(always)]
     pub fn resume_find_overlapping_stepper<'a>(
         &'a self,

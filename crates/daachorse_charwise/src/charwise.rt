@@ -1,8 +1,4 @@
 //! The automaton over characters.
-//!
-//! The layers above may rely on a build holding just the dictionary of its patterns, and on each
-//! search giving the whole list of matches that the definitions give for that dictionary, in the
-//! haystack as the automaton's option reads it.
 
 ghost use Rattle.std.specs.Prelude.{◌≡◌, ◌≢◌, ◌⊎◌, false, true, [], IfOk, IfErr, OnOk, OnErr, IsSortedByKey, encode_utf8_all, map, take};
 ghost use Rattle.std.specs.Cmp.Lexicographic.{slice_cmp};
@@ -47,13 +43,13 @@ use crate::charwise::states::States;
 use daachorse_core::MatchKind;
 use daachorse_core::errors::Result;
 use daachorse_prefilter::prefilter::{Prefilter, clone_filter};
+use daachorse_prefilter::skipping::Skipping;
 use daachorse_search::find::{FindWalk, find_in};
 use daachorse_search::leftmost::LeftmostMatches;
 use daachorse_search::matches_from::MatchesFrom;
 use daachorse_search::overlapping::{
     NoSuffixWalk, OverlappingWalk, find_overlapping_in, find_overlapping_no_suffix_in,
 };
-use daachorse_prefilter::skipping::Skipping;
 use daachorse_text::decoding::Decoded;
 use daachorse_text::text::Text;
 use std::alloc::{Allocator, Global};
@@ -62,24 +58,23 @@ use std::marker::Model;
 
 /// An automaton that finds many patterns in text at once.
 ///
-/// It is that of Aho and Corasick (1975): a trie of the patterns, with failure links.
+/// It is that of Aho and Corasick (1975), a trie of the patterns with failure links, in a double
+/// array laid out as by Kanda, Akabe and Oda (arXiv 2207.13870). Its units are characters, Unicode
+/// scalar values, and the places of a match count bytes of the text. An element takes 16 bytes, an
+/// output of a `u32` 12, and a table of codes 4 for each code point up to the greatest of the
+/// patterns.
 ///
-/// The units of a search are characters, Unicode scalar values, and the places of a match are bytes
-/// of the text. Its states stand in a double array whose layout is that of Kanda, Akabe and Oda
-/// (arXiv 2207.13870). An element takes 16 bytes, an output of a `u32` 12, and a table of codes 4
-/// bytes for each code point up to the greatest of the patterns. Searches take no memory;
-/// `quick_start` builds one over text.
-///
-/// Where it was built to disregard the case of ASCII letters, each search reads A to Z of its
-/// haystack as a to z, and every other character as it is.
+/// Searches and steppers need [`MatchKind::Standard`], but [`Self::leftmost_find_iter`] needs
+/// another kind, and [`Self::find`], [`Self::is_match`] and [`Self::replace_all`] take any. None
+/// takes memory. A standard search takes at most two turns, looks at one state, for each character.
 #[derive(Drop)]
 pub struct CharwiseDoubleArrayAhoCorasick<V: Copy, A: Allocator = Global> {
     states: States<V, A>,
-    // Haystacks are read folded. Its patterns then are folded too.
+    // Whether A to Z of a haystack are read as a to z. The patterns then have no A to Z.
     folds: bool,
-    // Passes at the beginning of the UTF-8 of each pattern, if it is there.
+    // Passes at the beginning of the UTF-8 of each pattern.
     filter: Option<Prefilter<A>>,
-    // Of each element how many characters lead to it; empty where depths are not cached.
+    // The depth of each element in characters, or nothing.
     depths: Vec<u32, A>,
 }
 
@@ -94,22 +89,8 @@ impl<V: Copy, A: Allocator> Model for CharwiseDoubleArrayAhoCorasick<V, A> {
 }
 
 impl<V: Copy, A: Allocator + Copy> CharwiseDoubleArrayAhoCorasick<V, A> {
-    /// Builds an automaton of these patterns, for the standard searches.
-    ///
-    /// Pattern `i`, counted from 0, has the value that the index `i` converts to. Equal patterns
-    /// are all kept. The automaton keeps `alloc` and takes its memory from it. The default
-    /// builder's [`CharwiseDoubleArrayAhoCorasickBuilder::build`] does the same.
-    ///
-    /// The work and the memory grow with the texts that begin a pattern; neither has a bound by
-    /// proof. `daachorse_tests` runs an example.
-    ///
-    /// # Conditions
-    ///
-    /// The iterator over the patterns ends.
-    ///
-    /// # Errors
-    ///
-    /// Those of [`CharwiseDoubleArrayAhoCorasickBuilder::build`].
+    /// Builds an automaton for the standard searches, as the default builder's
+    /// [`CharwiseDoubleArrayAhoCorasickBuilder::build`] does.
     pub fn new<'p, P: IntoIterator<Item = &'p str>>(alloc: A, patterns: P) -> Result<Self>
     where
         P::IntoIter: Drop,
@@ -126,22 +107,8 @@ impl<V: Copy, A: Allocator + Copy> CharwiseDoubleArrayAhoCorasick<V, A> {
         CharwiseDoubleArrayAhoCorasickBuilder::new().build(alloc, patterns)
     }
 
-    /// Builds an automaton of these patterns, each with its value, for the standard searches.
-    ///
-    /// Equal patterns are all kept, and so are equal values. The automaton keeps `alloc` and takes
-    /// its memory from it. The default builder's
-    /// [`CharwiseDoubleArrayAhoCorasickBuilder::build_with_values`] does the same.
-    ///
-    /// The work and the memory grow with the texts that begin a pattern; neither has a bound by
-    /// proof. `daachorse_tests` runs an example.
-    ///
-    /// # Conditions
-    ///
-    /// The iterator over the patterns ends.
-    ///
-    /// # Errors
-    ///
-    /// Those of [`CharwiseDoubleArrayAhoCorasickBuilder::build_with_values`].
+    /// Builds an automaton for the standard searches, as the default builder's
+    /// [`CharwiseDoubleArrayAhoCorasickBuilder::build_with_values`] does.
     pub fn with_values<'p, P: IntoIterator<Item = (&'p str, V)>>(
         alloc: A,
         patvals: P,
@@ -161,8 +128,7 @@ impl<V: Copy, A: Allocator + Copy> CharwiseDoubleArrayAhoCorasick<V, A> {
 }
 
 impl<V: Copy, A: Allocator + Copy> CharwiseDoubleArrayAhoCorasick<V, A> {
-    /// The automaton of these states and this filter, if there is one, with no depths cached. It
-    /// reads haystacks folded where `folds` says so.
+    /// An automaton of these parts, with no depths cached.
     pub(crate) fn of_states(
         alloc: A,
         states: States<V, A>,
@@ -184,22 +150,8 @@ impl<V: Copy, A: Allocator + Copy> CharwiseDoubleArrayAhoCorasick<V, A> {
         }
     }
 
-    /// Computes the depth of each element in characters, and keeps the depths for steppers.
-    ///
-    /// A stepper that is made from then on returns the depth of its state. After an error the
-    /// automaton is unchanged.
-    ///
-    /// The depths take four bytes for each element of the double array. With `世界` and `界`, a
-    /// stepper of [`Self::find_overlapping_stepper`] that is given `世`, `界` and `界` tells the
-    /// depths 1, 2 and 1, and before that 0 (`daachorse_tests` runs this).
-    ///
-    /// # Conditions
-    ///
-    /// The automaton is for the standard searches: its kind is [`MatchKind::Standard`].
-    ///
-    /// # Errors
-    ///
-    /// An allocation failed.
+    /// Computes the depth of each state in characters, which steppers made after that report. It
+    /// takes four bytes for each element. Fails only if an allocation fails.
     pub fn cache_depths(&mut self) -> Result<()>
         requires { kind_of self.old ≡ Standard }
         ensures states { states_of self.new ≡ states_of self.old }
@@ -214,19 +166,11 @@ impl<V: Copy, A: Allocator + Copy> CharwiseDoubleArrayAhoCorasick<V, A> {
         Ok(())
     }
 
-    /// Lists all patterns that the automaton holds, each with its value.
+    /// Lists the patterns with their values in byte order, equal ones in order of registration.
     ///
-    /// They come in byte order, which is the order of their characters, and equal ones in order of
-    /// registration. A build for [`MatchKind::LeftmostFirst`] leaves out each pattern that extends
-    /// an earlier one.
-    ///
-    /// The memory of the walk over the elements is taken at once, and that of each pattern as it is
-    /// given. Of `世界` and `界` the listing is `世界` and `界`, with the values 0 and 1
-    /// (`daachorse_tests` runs this).
-    ///
-    /// # Errors
-    ///
-    /// An allocation failed.
+    /// An automaton for [`MatchKind::LeftmostFirst`] holds no pattern that extends one registered
+    /// earlier. Of `界`, `世` and `界` the list is `世`, `界` and `界` with the values 1, 0 and 2. The
+    /// call and each item fail only if an allocation fails.
     pub fn iter<'a>(&'a self, alloc: A) -> Result<PatternIterator<'a, V, A>>
         ensures ok { IfOk result (λ patterns. IsListing (dictionary_of self.entry.now) patterns) }
         ensures texts { IfOk result AreTexts }
@@ -237,15 +181,7 @@ impl<V: Copy, A: Allocator + Copy> CharwiseDoubleArrayAhoCorasick<V, A> {
         Ok(PatternIterator { walk })
     }
 
-    /// Makes a copy of the automaton, in memory of its own.
-    ///
-    /// A clone is an automaton that equals its original; it takes as much memory, and is not the
-    /// trait's `clone`, since memory may be refused. `daachorse_tests` compares clones with their
-    /// originals.
-    ///
-    /// # Errors
-    ///
-    /// An allocation failed.
+    /// Returns a copy in memory of its own. It is no `Clone::clone`, since an allocation may fail.
     pub fn clone(&self) -> Result<Self>
         ensures same { IfOk result (λ a. a ≡ self.now) }
         ensures err { IfErr result IsOutOfMemory }
@@ -260,8 +196,7 @@ impl<V: Copy, A: Allocator + Copy> CharwiseDoubleArrayAhoCorasick<V, A> {
     }
 }
 
-/// Automata are equal where all that they keep is equal, the option, the filter and the cached
-/// depths included.
+/// Automata are equal if all that they hold is equal, the cached depths included.
 impl<V: Copy + PartialEq, A: Allocator> PartialEq for CharwiseDoubleArrayAhoCorasick<V, A> {
     ghost use Rattle.daachorse_charwise_states.specs.Equality.{parts_per};
     ghost use Rattle.daachorse_array.specs.Automata.{automaton_per};
@@ -307,48 +242,34 @@ impl<V: Copy + Hash, A: Allocator> Hash for CharwiseDoubleArrayAhoCorasick<V, A>
 
 impl<V: Copy, A: Allocator> CharwiseDoubleArrayAhoCorasick<V, A> {
     /// Returns the kind of searches that the automaton is for.
-    ///
-    /// It is kept, and nothing is counted.
     pub fn match_kind(&self) -> MatchKind
         ensures { result ≡ kind_of self.now }
     {
         self.states.kind()
     }
 
-    /// Returns whether the searches disregard the case of ASCII letters.
-    ///
-    /// It is kept, and nothing is read.
-    /// [`CharwiseDoubleArrayAhoCorasickBuilder::ascii_case_insensitive`] sets it for a build.
+    /// Returns whether searches ignore the case of ASCII letters.
     pub fn is_ascii_case_insensitive(&self) -> bool
         ensures { result ≡ self.now.folds }
     {
         self.folds
     }
 
-    /// Returns the number of elements of the double array, those included that are no state.
-    ///
-    /// It is kept, and nothing is counted. The array takes 16 bytes for each element.
-    /// `daachorse_tests` compares it with the alphabet's blocks.
+    /// Returns the number of elements of the double array, unused ones included, of 16 bytes each.
     pub fn num_elements(&self) -> usize
         ensures { result ≡ element_count self.now }
     {
         self.states.num_elements()
     }
 
-    /// Returns the number of states.
-    ///
-    /// A state stands for each text that begins a pattern of the automaton, the empty text
-    /// included.
-    ///
-    /// It is kept, and nothing is counted. Of `世界` and `界` there are 4 states (`daachorse_tests`
-    /// runs this).
+    /// Returns the number of states: one for each prefix of a pattern, the empty one included.
     pub fn num_states(&self) -> usize
         ensures { HasPrefixes (dictionary_of self.now) result }
     {
         self.states.num_states() as usize
     }
 
-    /// What a search in a text asks: the filter, if there is one, behind an open gate.
+    /// The prefilter for a new search in a text.
     #[inline(always)]
     fn skipping<'a>(&'a self) -> Skipping<'a, A>
         ensures asks { BeginsAsking self.entry.now.filter result }
@@ -359,20 +280,9 @@ impl<V: Copy, A: Allocator> CharwiseDoubleArrayAhoCorasick<V, A> {
 
     /// Finds non-overlapping matches in a haystack, each of which ends as early as possible.
     ///
-    /// The search goes on from the end of each match. Of the matches that end together it takes the
-    /// longest, and of equal patterns the one that was registered first. With an empty pattern
-    /// there is one empty match at each boundary.
-    ///
-    /// Places count the bytes of the text. Of the patterns `bcd`, `ab` and `a`, in this order, in
-    /// the haystack `abcd` it finds `a` from 0 to 1 and `bcd` from 1 to 4 (`daachorse_tests` runs
-    /// this).
-    ///
-    /// It takes at most two turns, which are looks at one state, for each character of the
-    /// haystack, and no memory.
-    ///
-    /// # Conditions
-    ///
-    /// The automaton is for the standard searches: its kind is [`MatchKind::Standard`].
+    /// Of matches that end together it takes the longest, and of equal patterns the first
+    /// registered. An empty pattern matches once at each boundary. Of `bcd`, `ab` and `a` in `abcd`
+    /// it finds `a` from 0 to 1 and `bcd` from 1 to 4.
     #[inline(always)]
     #[tactic(auto, using(daachorse_charwise_states::proofs::DeadLaws::alive))]
     pub fn find_iter<'a>(&'a self, haystack: &'a str) -> FindSliceIterator<'a, V, A>
@@ -388,19 +298,8 @@ impl<V: Copy, A: Allocator> CharwiseDoubleArrayAhoCorasick<V, A> {
         )
     }
 
-    /// Finds non-overlapping matches in the text whose bytes `haystack` yields.
-    ///
-    /// They are the matches of [`Self::find_iter`]. Each is returned before a byte past its end is
-    /// taken; with an empty pattern, before the byte behind its place is taken.
-    ///
-    /// Places count bytes from where the source stands. It takes at most two turns, which are looks
-    /// at one state, for each character that it takes, and no memory. `daachorse_tests` runs it
-    /// over the same haystacks as [`Self::find_iter`].
-    ///
-    /// # Conditions
-    ///
-    /// The automaton is for the standard searches: its kind is [`MatchKind::Standard`]. What may be
-    /// read of the source is a condition of the search's `next`.
+    /// Finds the matches of [`Self::find_iter`] in the text whose bytes `haystack` yields, each
+    /// before a byte past its end is taken. Places count from where the source stands.
     #[inline(always)]
     #[tactic(auto, using(daachorse_charwise_states::proofs::DeadLaws::alive))]
     pub fn find_iter_from_iter<'a, P: Iterator<Item = u8>>(
@@ -418,21 +317,11 @@ impl<V: Copy, A: Allocator> CharwiseDoubleArrayAhoCorasick<V, A> {
         )
     }
 
-    /// Finds every match in a haystack, also those that overlap.
+    /// Finds every match in a haystack, by rising ends; they may overlap.
     ///
-    /// Matches come by rising ends. Of those that end together the longest comes first, and equal
-    /// patterns come in order of registration.
-    ///
-    /// Places count the bytes of the text. Of the patterns `bcd`, `ab` and `a`, in this order, in
-    /// the haystack `abcd` it finds `a` from 0 to 1, `ab` from 0 to 2 and `bcd` from 1 to 4
-    /// (`daachorse_tests` runs this).
-    ///
-    /// It takes at most two turns, which are looks at one state, for each character of the
-    /// haystack, and no memory.
-    ///
-    /// # Conditions
-    ///
-    /// The automaton is for the standard searches: its kind is [`MatchKind::Standard`].
+    /// Of matches that end together the longest comes first, and equal patterns come in order of
+    /// registration. Of `bcd`, `ab` and `a` in `abcd` it finds `a` from 0 to 1, `ab` from 0 to 2
+    /// and `bcd` from 1 to 4.
     #[inline(always)]
     #[tactic(auto, using(daachorse_charwise_states::proofs::DeadLaws::alive))]
     pub fn find_overlapping_iter<'a>(
@@ -451,19 +340,8 @@ impl<V: Copy, A: Allocator> CharwiseDoubleArrayAhoCorasick<V, A> {
         )
     }
 
-    /// Finds every match in the text whose bytes `haystack` yields.
-    ///
-    /// They are the matches of [`Self::find_overlapping_iter`]. Each is returned before a byte past
-    /// its end is taken.
-    ///
-    /// Places count bytes from where the source stands. It takes at most two turns, which are looks
-    /// at one state, for each character that it takes, and no memory. `daachorse_tests` runs it
-    /// over the same haystacks as [`Self::find_overlapping_iter`].
-    ///
-    /// # Conditions
-    ///
-    /// The automaton is for the standard searches: its kind is [`MatchKind::Standard`]. What may be
-    /// read of the source is a condition of the search's `next`.
+    /// Finds the matches of [`Self::find_overlapping_iter`] in the text whose bytes `haystack`
+    /// yields, each before a byte past its end is taken. Places count from where the source stands.
     #[inline(always)]
     #[tactic(auto, using(daachorse_charwise_states::proofs::DeadLaws::alive))]
     pub fn find_overlapping_iter_from_iter<'a, P: Iterator<Item = u8>>(
@@ -481,21 +359,10 @@ impl<V: Copy, A: Allocator> CharwiseDoubleArrayAhoCorasick<V, A> {
         )
     }
 
-    /// Finds the longest match at each end in a haystack.
+    /// Finds the longest match at each end in a haystack, by rising ends; they may overlap.
     ///
-    /// Of equal patterns it takes the one that was registered first. Matches come by rising ends,
-    /// and may overlap.
-    ///
-    /// Places count the bytes of the text. Of the patterns `abcd`, `cd` and `bc` in the haystack
-    /// `abcd` it finds `bc` from 1 to 3 and `abcd` from 0 to 4, and not `cd`, which ends `abcd`
-    /// (`daachorse_tests` runs this).
-    ///
-    /// It takes at most two turns, which are looks at one state, for each character of the
-    /// haystack, and no memory.
-    ///
-    /// # Conditions
-    ///
-    /// The automaton is for the standard searches: its kind is [`MatchKind::Standard`].
+    /// Of equal patterns it takes the first registered. Of `abcd`, `cd` and `bc` in `abcd` it finds
+    /// `bc` from 1 to 3 and `abcd` from 0 to 4, but not `cd`.
     #[inline(always)]
     #[tactic(auto, using(daachorse_charwise_states::proofs::DeadLaws::alive))]
     pub fn find_overlapping_no_suffix_iter<'a>(
@@ -514,19 +381,9 @@ impl<V: Copy, A: Allocator> CharwiseDoubleArrayAhoCorasick<V, A> {
         )
     }
 
-    /// Finds the longest match at each end in the text whose bytes `haystack` yields.
-    ///
-    /// They are the matches of [`Self::find_overlapping_no_suffix_iter`]. Each is returned before a
-    /// byte past its end is taken.
-    ///
-    /// Places count bytes from where the source stands. It takes at most two turns, which are looks
-    /// at one state, for each character that it takes, and no memory. `daachorse_tests` runs it
-    /// over the same haystacks as [`Self::find_overlapping_no_suffix_iter`].
-    ///
-    /// # Conditions
-    ///
-    /// The automaton is for the standard searches: its kind is [`MatchKind::Standard`]. What may be
-    /// read of the source is a condition of the search's `next`.
+    /// Finds the matches of [`Self::find_overlapping_no_suffix_iter`] in the text whose bytes
+    /// `haystack` yields, each before a byte past its end is taken. Places count from where the
+    /// source stands.
     #[inline(always)]
     #[tactic(auto, using(daachorse_charwise_states::proofs::DeadLaws::alive))]
     pub fn find_overlapping_no_suffix_iter_from_iter<'a, P: Iterator<Item = u8>>(
@@ -546,23 +403,11 @@ impl<V: Copy, A: Allocator> CharwiseDoubleArrayAhoCorasick<V, A> {
 
     /// Finds non-overlapping matches in a haystack, each of which starts as early as possible.
     ///
-    /// The search goes on from the end of each match. At a start it takes the longest pattern that
-    /// the automaton holds, and of equal patterns the one that was registered first. For
-    /// [`MatchKind::LeftmostFirst`], which leaves out each pattern that extends an earlier one,
-    /// that is the earliest registered pattern that occurs there. An empty match right behind a
-    /// nonempty one is passed over.
-    ///
-    /// Places count the bytes of the text. Of the patterns `ab`, `a` and `abcd`, in this order, in
-    /// the haystack `abcd` an automaton for [`MatchKind::LeftmostLongest`] finds `abcd`, and one
-    /// for [`MatchKind::LeftmostFirst`] finds `ab` (`daachorse_tests` runs this).
-    ///
-    /// It takes no memory. After `g` matches it has taken at most two turns, which are looks at one
-    /// state, for each character that it passed, and four times the characters of the longest
-    /// pattern for each match.
-    ///
-    /// # Conditions
-    ///
-    /// The automaton is for a leftmost search: its kind is not [`MatchKind::Standard`].
+    /// Of matches that start together [`MatchKind::LeftmostFirst`] takes the first registered, and
+    /// [`MatchKind::LeftmostLongest`] the longest, of equal patterns the first registered. Of `ab`,
+    /// `a` and `abcd` in `abcd` these are `ab` and `abcd`. No empty match comes right after a
+    /// nonempty one. It takes at most two turns for each character passed, and for each match four
+    /// for each character of the longest pattern.
     #[inline(always)]
     #[tactic(auto, using(daachorse_charwise_states::proofs::DeadLaws::is_leftmost_automaton))]
     pub fn leftmost_find_iter<'a>(&'a self, haystack: &'a str) -> LeftmostFindIterator<'a, V, A>
@@ -579,15 +424,6 @@ impl<V: Copy, A: Allocator> CharwiseDoubleArrayAhoCorasick<V, A> {
     }
 
     /// Starts the search of [`Self::find_iter`], to be given one character at a time.
-    ///
-    /// The stepper is given one character at a time by `consume`; after each, `matches` tells the
-    /// match that ends there, if there is one. In all it takes at most two turns, which are looks
-    /// at one state, for each character that it is given, and no memory. `daachorse_tests` runs it
-    /// over the haystacks of [`Self::find_iter`].
-    ///
-    /// # Conditions
-    ///
-    /// The automaton is for the standard searches: its kind is [`MatchKind::Standard`].
     #[inline(always)]
     #[tactic(auto, using(daachorse_charwise_states::proofs::DeadLaws::alive))]
     pub fn find_stepper<'a>(&'a self) -> FindStepper<'a, V>
@@ -599,15 +435,6 @@ impl<V: Copy, A: Allocator> CharwiseDoubleArrayAhoCorasick<V, A> {
     }
 
     /// Starts the search of [`Self::find_overlapping_iter`], to be given one character at a time.
-    ///
-    /// The stepper is given one character at a time by `consume`; after each, `matches` tells all
-    /// matches that end there, the longest first. In all it takes at most two turns, which are
-    /// looks at one state, for each character that it is given, and no memory. `daachorse_tests`
-    /// runs it over the haystacks of [`Self::find_overlapping_iter`].
-    ///
-    /// # Conditions
-    ///
-    /// The automaton is for the standard searches: its kind is [`MatchKind::Standard`].
     #[inline(always)]
     #[tactic(auto, using(daachorse_charwise_states::proofs::DeadLaws::alive))]
     pub fn find_overlapping_stepper<'a>(&'a self) -> FindOverlappingStepper<'a, V>

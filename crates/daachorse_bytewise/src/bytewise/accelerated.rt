@@ -1,8 +1,4 @@
 //! An automaton over bytes with rows of the states near its root, for faster searches.
-//!
-//! The layers above may rely on each search giving the whole list that the automaton's own search of
-//! its name gives, with at most as many turns as are promised there, of a standard search at most one for
-//! each byte where no step leaves the rows, and on a stepper telling the matches that that of its name tells.
 
 ghost use Rattle.std.specs.Prelude.{◌≡◌, ◌≢◌, [], IfOk, IfSome, IfErr, length, take};
 ghost use Rattle.std.specs.Option.{option_to_list};
@@ -29,6 +25,8 @@ use crate::bytewise::iter::accelerated::{
 };
 use crate::bytewise::{DoubleArrayAhoCorasick, states};
 use daachorse_core::errors::Result;
+use daachorse_prefilter::beginnings::{BEGINNING, Beginnings, FEW_STATES};
+use daachorse_prefilter::skipping::Skipping;
 use daachorse_rows::rows::Rows;
 use daachorse_rows::view::RowView;
 use daachorse_search::find::{FindWalk, find_in};
@@ -41,26 +39,19 @@ use daachorse_search::overlapping::{
 };
 use daachorse_search::overlapping_stepper::OverlappingStanding;
 use daachorse_search::source;
-use daachorse_prefilter::beginnings::{BEGINNING, Beginnings, FEW_STATES};
-use daachorse_prefilter::skipping::Skipping;
 use std::alloc::{Allocator, Global};
 use std::marker::Model;
 
-/// An automaton over bytes, which it borrows, and rows of the states near its root.
+/// A borrowed automaton with rows of the states near its root. Searches find the same matches.
 ///
-/// A row tells of each byte where the whole step ends, if that is a state with a row, so that a search
-/// takes one look for each byte while it goes from row to row, and follows no link. Elsewhere it looks at
-/// the automaton as any search does. Where no step leads out of the rows, each standard search and stepper
-/// takes at most one turn for each byte. What is found is the same.
-///
-/// It pays where much is searched and most bytes are read at states with rows: with some thousands
-/// of states, where few of the 256 bytes occur in patterns.
-/// [`DoubleArrayAhoCorasick::accelerate`] makes it, and tells when to use it and what it takes.
+/// A row gives for each byte the state at which the whole step ends, so that a search takes one
+/// look for each byte while it stays in rows, and follows no failure link. If no step leaves the
+/// rows, each standard search and stepper takes at most one turn for each byte.
 #[derive(Drop)]
 pub struct Accelerated<'a, V: Copy, A: Allocator = Global> {
     automaton: &'a DoubleArrayAhoCorasick<V, A>,
     rows: Rows<A>,
-    // What the patterns begin with, which a search in a slice asks where the filter passes.
+    // Asked by searches in a slice after the prefilter passes.
     beginnings: Option<Beginnings<A>>,
 }
 
@@ -80,33 +71,17 @@ impl<'a, V: Copy, A: Allocator> Model for Accelerated<'a, V, A> {
 impl<V: Copy, A: Allocator + Copy> DoubleArrayAhoCorasick<V, A> {
     /// Makes rows of the states near the root, for faster searches.
     ///
-    /// Each text of at most two bytes that begins a pattern has a row, and so have longer ones
-    /// while there is room. The answer is `None` where those alone are more than there is room for:
-    /// a row has three slots and one for each byte that occurs in patterns, up to a multiple of four,
-    /// and there are 126,336 slots, which are at least 485 rows. Where at most 485 texts begin a pattern,
-    /// each has a row, and each standard search and stepper takes at most one turn for each byte.
+    /// Each prefix of at most two bytes gets a row, or the call returns `None` if there is no room
+    /// for these. Longer prefixes get rows while there is room. A row has three slots and one for
+    /// each byte that occurs in patterns, rounded up to a multiple of four, and the 126,336 slots
+    /// are at least 485 rows.
     ///
-    /// Use it where much is searched for up to some thousand words, and for a leftmost search up to
-    /// about one thousand. With tens of thousands of words, rows cost more than they save in an
-    /// overlapping or a leftmost search. Where the filter passes over most of the haystack, they
-    /// change little. `docs/SPEED.md` has what was measured.
+    /// Use it to search much text for up to some thousand words, or one thousand in a leftmost
+    /// search. Tens of thousands make overlapping and leftmost searches slower (`docs/SPEED.md`).
     ///
-    /// Of the patterns `ab` and `b` in the haystack `ab` the search
-    /// [`Accelerated::find_overlapping_iter`] finds `ab` from 0 to 2 and `b` from 1 to 2. Of 255
-    /// patterns of one byte each and 230 of two of these bytes there are no rows
-    /// (`daachorse_tests` runs both).
-    ///
-    /// Where the automaton has a filter, at least 8,192 states and no pattern of less than four bytes, a
-    /// table of 8,192 bytes tells which four bytes patterns begin with. A search in a slice asks it
-    /// where the filter passes.
-    ///
-    /// It borrows the automaton, and takes at most 256 KiB and two bytes for each element. While it is made,
-    /// a list of the states with rows stands beside these, and then a walk over the patterns. The work grows
-    /// with the elements and with the slots; it has no bound by proof.
-    ///
-    /// # Errors
-    ///
-    /// An allocation failed.
+    /// With a prefilter, at least 8,192 states and no pattern of less than four bytes, searches in
+    /// a slice also ask a table of 8,192 bytes which four bytes patterns begin with. In all this
+    /// takes at most 256 KiB and two bytes for each element. Fails only if an allocation fails.
     pub fn accelerate<'a>(&'a self, alloc: A) -> Result<Option<Accelerated<'a, V, A>>>
         ensures automaton { IfOk result (λ a. IfSome a (λ a. a.automaton ≡ self.entry.now)) }
         ensures covered { IfOk result (λ a. IfSome a HasRowsNear) }
@@ -126,14 +101,8 @@ impl<V: Copy, A: Allocator + Copy> DoubleArrayAhoCorasick<V, A> {
         }))
     }
 
-    /// What the patterns begin with, where that tells more than the filter.
-    ///
-    /// It tells nothing where there is no filter, where the states are few, since the filter then passes at
-    /// little else than these beginnings, and where some pattern is shorter than a beginning.
-    ///
-    /// # Errors
-    ///
-    /// An allocation failed.
+    /// The table of pattern beginnings, if there is a prefilter and no pattern is too short. With
+    /// few states the prefilter passes at little else, and there is none.
     fn beginnings(&self, alloc: A) -> Result<Option<Beginnings<A>>>
         ensures told { IfOk result (MayTell (λ w. w) (dictionary_of self.now)) }
         ensures err { IfErr result IsOutOfMemory }
@@ -154,7 +123,7 @@ impl<V: Copy, A: Allocator + Copy> DoubleArrayAhoCorasick<V, A> {
 }
 
 impl<V: Copy, A: Allocator> DoubleArrayAhoCorasick<V, A> {
-    /// What the standard searches see of the states.
+    /// The states as standard searches see them.
     #[inline(always)]
     fn standard<'s>(&'s self) -> states::Standard<'s, V>
         requires { kind_of self.now ≡ Standard }
@@ -163,7 +132,7 @@ impl<V: Copy, A: Allocator> DoubleArrayAhoCorasick<V, A> {
         self.states.standard()
     }
 
-    /// What the leftmost searches see of the states.
+    /// The states as leftmost searches see them.
     #[inline(always)]
     fn leftmost<'s>(&'s self) -> states::Leftmost<'s, V>
         requires { kind_of self.now ≢ Standard }
@@ -175,15 +144,13 @@ impl<V: Copy, A: Allocator> DoubleArrayAhoCorasick<V, A> {
 
 impl<'a, V: Copy, A: Allocator> Accelerated<'a, V, A> {
     /// Returns the automaton whose states have the rows.
-    ///
-    /// It is borrowed, and nothing is copied. `daachorse_tests` asks it for its kind.
     pub fn automaton(&self) -> &'a DoubleArrayAhoCorasick<V, A>
         ensures { result.now ≡ self.now.automaton }
     {
         self.automaton
     }
 
-    /// What the standard searches see of the states and their rows.
+    /// The states and their rows as standard searches see them.
     #[inline(always)]
     fn standard<'s>(&'s self) -> RowView<'s, V, states::Standard<'s, V>>
         requires { kind_of self.now.automaton ≡ Standard }
@@ -192,7 +159,7 @@ impl<'a, V: Copy, A: Allocator> Accelerated<'a, V, A> {
         self.rows.view(self.automaton.standard())
     }
 
-    /// What the leftmost searches see of the states and their rows.
+    /// The states and their rows as leftmost searches see them.
     #[inline(always)]
     fn leftmost<'s>(&'s self) -> RowView<'s, V, states::Leftmost<'s, V>>
         requires { kind_of self.now.automaton ≢ Standard }
@@ -201,8 +168,7 @@ impl<'a, V: Copy, A: Allocator> Accelerated<'a, V, A> {
         self.rows.view(self.automaton.leftmost())
     }
 
-    /// What a search in a slice asks: the filter of the automaton, if it has one, behind an open gate, and
-    /// where it passes what the patterns begin with.
+    /// The prefilter for a new search in a slice, followed by the table of pattern beginnings.
     #[inline(always)]
     fn skipping<'s>(&'s self) -> Skipping<'s, A>
         ensures asks { BeginsAskingBoth self.entry.now.beginnings self.entry.now.automaton.filter result }
@@ -213,21 +179,7 @@ impl<'a, V: Copy, A: Allocator> Accelerated<'a, V, A> {
             .with_beginnings(self.beginnings.as_ref())
     }
 
-    /// Finds non-overlapping matches in a haystack, each of which ends as early as possible.
-    ///
-    /// They are the matches of [`DoubleArrayAhoCorasick::find_iter`], where the rest is said of
-    /// which is taken.
-    ///
-    /// Places count bytes. Of the patterns `bcd`, `ab` and `a`, in this order, in the haystack
-    /// `abcd` it finds `a` from 0 to 1 and `bcd` from 1 to 4 (`daachorse_tests` runs this).
-    ///
-    /// It takes at most two turns, which are looks at one state, for each byte of the haystack, and
-    /// no memory.
-    ///
-    /// # Conditions
-    ///
-    /// The automaton is for the standard searches: its kind is
-    /// [`MatchKind::Standard`](daachorse_core::MatchKind::Standard).
+    /// As [`DoubleArrayAhoCorasick::find_iter`], over rows.
     #[inline(always)]
     #[tactic(auto, using(daachorse_bytewise_states::proofs::DeadLaws::alive))]
     pub fn find_iter<'s>(&'s self, haystack: &'s [u8]) -> FindSliceIterator<'s, V, A>
@@ -243,20 +195,7 @@ impl<'a, V: Copy, A: Allocator> Accelerated<'a, V, A> {
         )
     }
 
-    /// Finds non-overlapping matches in the bytes that `haystack` yields.
-    ///
-    /// They are the matches of [`Self::find_iter`]. Each is returned before a byte past its end is
-    /// taken; with an empty pattern, before the byte behind its place is taken.
-    ///
-    /// Places count bytes from where the source stands. It takes at most two turns, which are looks
-    /// at one state, for each byte that it takes, and no memory. `daachorse_tests` runs it over the
-    /// same haystacks as [`Self::find_iter`].
-    ///
-    /// # Conditions
-    ///
-    /// The automaton is for the standard searches: its kind is
-    /// [`MatchKind::Standard`](daachorse_core::MatchKind::Standard). What may be read of the source
-    /// is a condition of the search's `next`.
+    /// As [`DoubleArrayAhoCorasick::find_iter_from_iter`], over rows.
     #[inline(always)]
     #[tactic(auto, using(daachorse_bytewise_states::proofs::DeadLaws::alive))]
     pub fn find_iter_from_iter<'s, P: Iterator<Item = u8>>(
@@ -274,22 +213,7 @@ impl<'a, V: Copy, A: Allocator> Accelerated<'a, V, A> {
         )
     }
 
-    /// Finds every match in a haystack, also those that overlap.
-    ///
-    /// They are the matches of [`DoubleArrayAhoCorasick::find_overlapping_iter`], in its order: by
-    /// rising ends, and of those that end together the longest first.
-    ///
-    /// Places count bytes. Of the patterns `bcd`, `ab` and `a`, in this order, in the haystack
-    /// `abcd` it finds `a` from 0 to 1, `ab` from 0 to 2 and `bcd` from 1 to 4 (`daachorse_tests`
-    /// runs this).
-    ///
-    /// It takes at most two turns, which are looks at one state, for each byte of the haystack, and
-    /// no memory.
-    ///
-    /// # Conditions
-    ///
-    /// The automaton is for the standard searches: its kind is
-    /// [`MatchKind::Standard`](daachorse_core::MatchKind::Standard).
+    /// As [`DoubleArrayAhoCorasick::find_overlapping_iter`], over rows.
     #[inline(always)]
     #[tactic(auto, using(daachorse_bytewise_states::proofs::DeadLaws::alive))]
     pub fn find_overlapping_iter<'s>(
@@ -308,20 +232,7 @@ impl<'a, V: Copy, A: Allocator> Accelerated<'a, V, A> {
         )
     }
 
-    /// Finds every match in the bytes that `haystack` yields.
-    ///
-    /// They are the matches of [`Self::find_overlapping_iter`]. Each is returned before a byte past
-    /// its end is taken.
-    ///
-    /// Places count bytes from where the source stands. It takes at most two turns, which are looks
-    /// at one state, for each byte that it takes, and no memory. `daachorse_tests` runs it over the
-    /// same haystacks as [`Self::find_overlapping_iter`].
-    ///
-    /// # Conditions
-    ///
-    /// The automaton is for the standard searches: its kind is
-    /// [`MatchKind::Standard`](daachorse_core::MatchKind::Standard). What may be read of the source
-    /// is a condition of the search's `next`.
+    /// As [`DoubleArrayAhoCorasick::find_overlapping_iter_from_iter`], over rows.
     #[inline(always)]
     #[tactic(auto, using(daachorse_bytewise_states::proofs::DeadLaws::alive))]
     pub fn find_overlapping_iter_from_iter<'s, P: Iterator<Item = u8>>(
@@ -339,22 +250,7 @@ impl<'a, V: Copy, A: Allocator> Accelerated<'a, V, A> {
         )
     }
 
-    /// Finds the longest match at each end in a haystack.
-    ///
-    /// They are the matches of [`DoubleArrayAhoCorasick::find_overlapping_no_suffix_iter`], in its
-    /// order: by rising ends.
-    ///
-    /// Places count bytes. Of the patterns `abcd`, `cd` and `bc` in the haystack `abcd` it finds
-    /// `bc` from 1 to 3 and `abcd` from 0 to 4, and not `cd`, which ends `abcd` (`daachorse_tests`
-    /// runs this).
-    ///
-    /// It takes at most two turns, which are looks at one state, for each byte of the haystack, and
-    /// no memory.
-    ///
-    /// # Conditions
-    ///
-    /// The automaton is for the standard searches: its kind is
-    /// [`MatchKind::Standard`](daachorse_core::MatchKind::Standard).
+    /// As [`DoubleArrayAhoCorasick::find_overlapping_no_suffix_iter`], over rows.
     #[inline(always)]
     #[tactic(auto, using(daachorse_bytewise_states::proofs::DeadLaws::alive))]
     pub fn find_overlapping_no_suffix_iter<'s>(
@@ -373,20 +269,7 @@ impl<'a, V: Copy, A: Allocator> Accelerated<'a, V, A> {
         )
     }
 
-    /// Finds the longest match at each end in the bytes that `haystack` yields.
-    ///
-    /// They are the matches of [`Self::find_overlapping_no_suffix_iter`]. Each is returned before a
-    /// byte past its end is taken.
-    ///
-    /// Places count bytes from where the source stands. It takes at most two turns, which are looks
-    /// at one state, for each byte that it takes, and no memory. `daachorse_tests` runs it over the
-    /// same haystacks as [`Self::find_overlapping_no_suffix_iter`].
-    ///
-    /// # Conditions
-    ///
-    /// The automaton is for the standard searches: its kind is
-    /// [`MatchKind::Standard`](daachorse_core::MatchKind::Standard). What may be read of the source
-    /// is a condition of the search's `next`.
+    /// As [`DoubleArrayAhoCorasick::find_overlapping_no_suffix_iter_from_iter`], over rows.
     #[inline(always)]
     #[tactic(auto, using(daachorse_bytewise_states::proofs::DeadLaws::alive))]
     pub fn find_overlapping_no_suffix_iter_from_iter<'s, P: Iterator<Item = u8>>(
@@ -404,25 +287,7 @@ impl<'a, V: Copy, A: Allocator> Accelerated<'a, V, A> {
         )
     }
 
-    /// Finds non-overlapping matches in a haystack, each of which starts as early as possible.
-    ///
-    /// They are the matches of [`DoubleArrayAhoCorasick::leftmost_find_iter`], where it is said
-    /// which of those that start together is taken.
-    ///
-    /// Places count bytes. Of the patterns `ab`, `a` and `abcd`, in this order, in the haystack
-    /// `abcd` an automaton for
-    /// [`MatchKind::LeftmostLongest`](daachorse_core::MatchKind::LeftmostLongest) finds `abcd`, and
-    /// one for [`MatchKind::LeftmostFirst`](daachorse_core::MatchKind::LeftmostFirst) finds `ab`
-    /// (`daachorse_tests` runs this).
-    ///
-    /// It takes no memory. After `g` matches it has taken at most two turns, which are looks at one
-    /// state, for each byte that it passed, and four times the bytes of the longest pattern for
-    /// each match.
-    ///
-    /// # Conditions
-    ///
-    /// The automaton is for a leftmost search: its kind is not
-    /// [`MatchKind::Standard`](daachorse_core::MatchKind::Standard).
+    /// As [`DoubleArrayAhoCorasick::leftmost_find_iter`], over rows.
     #[inline(always)]
     #[tactic(auto, using(daachorse_bytewise_states::proofs::DeadLaws::is_leftmost_automaton))]
     pub fn leftmost_find_iter<'s>(&'s self, haystack: &'s [u8]) -> LeftmostFindIterator<'s, V, A>
@@ -438,17 +303,7 @@ impl<'a, V: Copy, A: Allocator> Accelerated<'a, V, A> {
         )
     }
 
-    /// Starts the search of [`Self::find_iter`], to be given one byte at a time.
-    ///
-    /// After each byte that `consume` is given, `matches` tells the match that ends there, if there
-    /// is one. In all it takes at most two turns, which are looks at one state, for each byte that
-    /// it is given, and no memory. It tells no depths, even where the automaton has them cached.
-    /// `daachorse_tests` runs it over the haystacks of [`Self::find_iter`].
-    ///
-    /// # Conditions
-    ///
-    /// The automaton is for the standard searches: its kind is
-    /// [`MatchKind::Standard`](daachorse_core::MatchKind::Standard).
+    /// As [`DoubleArrayAhoCorasick::find_stepper`], over rows and without depths.
     #[inline(always)]
     #[tactic(auto, using(daachorse_bytewise_states::proofs::DeadLaws::alive))]
     pub fn find_stepper<'s>(&'s self) -> FindStepper<'s, V>
@@ -460,17 +315,7 @@ impl<'a, V: Copy, A: Allocator> Accelerated<'a, V, A> {
         FindStepper::new(self.standard(), &[], folds)
     }
 
-    /// Starts the search of [`Self::find_overlapping_iter`], to be given one byte at a time.
-    ///
-    /// After each byte that `consume` is given, `matches` tells all matches that end there, the
-    /// longest first. In all it takes at most two turns, which are looks at one state, for each
-    /// byte that it is given, and no memory. It tells no depths, even where the automaton has them
-    /// cached. `daachorse_tests` runs it over the haystacks of [`Self::find_overlapping_iter`].
-    ///
-    /// # Conditions
-    ///
-    /// The automaton is for the standard searches: its kind is
-    /// [`MatchKind::Standard`](daachorse_core::MatchKind::Standard).
+    /// As [`DoubleArrayAhoCorasick::find_overlapping_stepper`], over rows and without depths.
     #[inline(always)]
     #[tactic(auto, using(daachorse_bytewise_states::proofs::DeadLaws::alive))]
     pub fn find_overlapping_stepper<'s>(&'s self) -> FindOverlappingStepper<'s, V>
@@ -482,17 +327,7 @@ impl<'a, V: Copy, A: Allocator> Accelerated<'a, V, A> {
         FindOverlappingStepper::new(self.standard(), &[], folds)
     }
 
-    /// Goes on with a search of [`Self::find_stepper`] from where one over these rows stood.
-    ///
-    /// What was read before counts on: the places of later matches count bytes from the beginning
-    /// of the whole haystack. It takes no memory and no turn.
-    ///
-    /// With the patterns `ab` and `b`, where the first stepper was given `a`, the next is given `b`
-    /// and then tells `ab` from 0 to 2 (`daachorse_tests` runs this).
-    ///
-    /// # Conditions
-    ///
-    /// The automaton is for the standard searches, and a stepper over these rows stood so.
+    /// As [`DoubleArrayAhoCorasick::resume_find_stepper`], over these rows.
     #[inline(always)]
     pub fn resume_find_stepper<'s>(&'s self, standing: FindStanding) -> FindStepper<'s, V>
         requires kind { kind_of self.now.automaton ≡ Standard }
@@ -508,18 +343,7 @@ impl<'a, V: Copy, A: Allocator> Accelerated<'a, V, A> {
         FindStepper::resume(self.standard(), &[], standing, folds)
     }
 
-    /// Goes on with a search of [`Self::find_overlapping_stepper`] from where one over these rows
-    /// stood.
-    ///
-    /// What was read before counts on: the places of later matches count bytes from the beginning
-    /// of the whole haystack. It takes no memory and no turn.
-    ///
-    /// With the patterns `ab` and `b`, where the first stepper was given `a`, the next is given `b`
-    /// and then tells `ab` from 0 to 2 and `b` from 1 to 2 (`daachorse_tests` runs this).
-    ///
-    /// # Conditions
-    ///
-    /// The automaton is for the standard searches, and a stepper over these rows stood so.
+    /// As [`DoubleArrayAhoCorasick::resume_find_overlapping_stepper`], over these rows.
     #[inline(always)]
     pub fn resume_find_overlapping_stepper<'s>(
         &'s self,

@@ -1,9 +1,4 @@
 //! The builder of the automaton over bytes.
-//!
-//! The layers above may rely on a build holding just the dictionary of its patterns, as its option
-//! reads them, for the builder's kind, and on the order of its refusals: all indexes are converted
-//! first, then the patterns are added in order, and the limit on their number is tested last; the
-//! first refusal ends the build.
 
 ghost use Rattle.std.specs.Prelude.{◌≡◌, ◌⊎◌, false, true, None, length, IfOk, IfErr, IsSomeAnd, map};
 ghost use Rattle.std.specs.Iterator.{IsFinite};
@@ -34,14 +29,10 @@ use daachorse_placement::build_helper::Profile;
 use std::alloc::{Allocator, Global};
 use std::marker::Model;
 
-/// The greatest number of patterns that an automaton may hold.
+/// The most patterns that an automaton may hold.
 const MAX_PATTERNS: usize = 0x00ff_ffff;
 
 /// A builder of [`DoubleArrayAhoCorasick`].
-///
-/// It keeps the kind, whether there is to be a filter, whether the case of ASCII letters is
-/// disregarded, and a copy of the documents that it was given. `daachorse_tests` builds with each
-/// of them.
 #[derive(Drop)]
 pub struct DoubleArrayAhoCorasickBuilder<A: Allocator = Global> {
     settings: Settings<u8, A>,
@@ -64,16 +55,14 @@ impl<A: Allocator> Default for DoubleArrayAhoCorasickBuilder<A> {
 
     ghost is_default = { λ b. (b.match_kind ≡ Standard) × (b.use_prefilter ≡ true) × (b.corpus ≡ None) × (b.ascii_case_insensitive ≡ false) };
 
-    /// Makes the builder that [`DoubleArrayAhoCorasickBuilder::new`] makes.
+    /// The same as [`DoubleArrayAhoCorasickBuilder::new`].
     fn default() -> Self {
         Self::new()
     }
 }
 
 impl<A: Allocator> DoubleArrayAhoCorasickBuilder<A> {
-    /// Makes a builder of automata for the standard searches, with a filter and without a corpus.
-    ///
-    /// It takes no memory.
+    /// Returns a builder for the standard searches: case-sensitive, with a prefilter and no corpus.
     pub fn new() -> Self
         ensures kind { result.match_kind ≡ Standard }
         ensures filter { result.use_prefilter ≡ true }
@@ -86,8 +75,6 @@ impl<A: Allocator> DoubleArrayAhoCorasickBuilder<A> {
     }
 
     /// Sets the kind of searches that the automaton is built for.
-    ///
-    /// The one that was set last holds. `daachorse_tests` sets it.
     pub fn match_kind(mut self, kind: MatchKind) -> Self
         ensures { result ≡ record self { match_kind = kind } }
     {
@@ -95,15 +82,9 @@ impl<A: Allocator> DoubleArrayAhoCorasickBuilder<A> {
         self
     }
 
-    /// Sets whether the automaton gets a filter, which tells searches in a haystack where no
-    /// pattern begins. It does by default.
+    /// Sets whether the automaton gets a prefilter, as it does by default. No match depends on it.
     ///
-    /// A build makes the filter of all patterns, and keeps none where there is no pattern, where
-    /// one has fewer than 2 bytes, or where the filter would pass too often. What a search yields
-    /// is the same with a filter and without.
-    ///
-    /// The filter takes memory beside the states, and what it passes over takes no turn.
-    /// `daachorse_tests` builds with and without.
+    /// None is kept without patterns, with one under 2 bytes, or if it would pass too often.
     pub fn use_prefilter(mut self, yes: bool) -> Self
         ensures { result ≡ record self { use_prefilter = yes } }
     {
@@ -111,18 +92,11 @@ impl<A: Allocator> DoubleArrayAhoCorasickBuilder<A> {
         self
     }
 
-    /// Sets whether the searches of the automaton disregard the case of ASCII letters. They do not
-    /// by default.
+    /// Sets whether searches ignore the case of ASCII letters. They do not by default.
     ///
-    /// Where they do, A to Z are read as a to z, and every other byte as it is: of each pattern and
-    /// each document in a build, and of each haystack in a search. So the automaton holds its
-    /// patterns in lower case, a listing shows them so, and patterns that differ in nothing but
-    /// case are equal. The places of a match are those of the haystack as it was given. With `Ab`
-    /// as a pattern a search finds `ab`, `aB`, `Ab` and `AB`.
-    ///
-    /// A build takes memory for a copy of the patterns until it returns. A search looks at the
-    /// option once in a call, and where it is set reads each byte in a few steps more.
-    /// `daachorse_tests` builds with and without.
+    /// If they do, A to Z are read as a to z in patterns, corpus and haystacks. Patterns are then
+    /// held and listed in lower case, and those that differ in case alone are equal. A build takes
+    /// memory for a copy of the patterns.
     pub fn ascii_case_insensitive(mut self, yes: bool) -> Self
         ensures { result ≡ record self { ascii_case_insensitive = yes } }
     {
@@ -132,22 +106,8 @@ impl<A: Allocator> DoubleArrayAhoCorasickBuilder<A> {
 }
 
 impl<A: Allocator + Copy> DoubleArrayAhoCorasickBuilder<A> {
-    /// Sets the documents by which the states of the automaton are laid out: the states that
-    /// searches over them read most often stand closest together. They are copied, and take the
-    /// place of those that were set before.
-    ///
-    /// A search in the automaton, and what it lists, is the same with any documents and with none.
-    ///
-    /// A build reads each document once, over the trie of the patterns. `daachorse_tests` lays out
-    /// by documents.
-    ///
-    /// # Conditions
-    ///
-    /// The iterator over the documents ends.
-    ///
-    /// # Errors
-    ///
-    /// An allocation failed.
+    /// Sets sample haystacks, which are copied. The states that searches over them read most often
+    /// are laid out closest together. No match depends on it. Fails only if an allocation fails.
     pub fn corpus<'d, D: IntoIterator<Item = &'d [u8]>>(
         mut self,
         alloc: A,
@@ -168,22 +128,10 @@ impl<A: Allocator + Copy> DoubleArrayAhoCorasickBuilder<A> {
         Ok(self)
     }
 
-    /// Builds an automaton of these patterns.
+    /// Builds an automaton of these patterns. Pattern `i`, from 0, gets the value of the index `i`.
     ///
-    /// Pattern `i`, counted from 0, has the value that the index `i` converts to. Equal patterns
-    /// are all kept. The automaton keeps `alloc` and takes its memory from it.
-    ///
-    /// The patterns are gathered into a vector first, and the trie of the build is freed before the
-    /// call returns. `daachorse_tests` runs it.
-    ///
-    /// # Conditions
-    ///
-    /// The iterator over the patterns ends.
-    ///
-    /// # Errors
-    ///
-    /// `InvalidConversion` where an index has no value: all indexes are converted before the first
-    /// pattern is added. Then the errors of [`DoubleArrayAhoCorasickBuilder::build_with_values`].
+    /// Fails first with `InvalidConversion` if an index has no value, and then as
+    /// [`Self::build_with_values`].
     pub fn build<'p, V, P: IntoIterator<Item = &'p [u8]>>(
         self,
         alloc: A,
@@ -206,25 +154,14 @@ impl<A: Allocator + Copy> DoubleArrayAhoCorasickBuilder<A> {
         from_texts(alloc, &settings, &texts)
     }
 
-    /// Builds an automaton of these patterns, each with its value.
+    /// Builds an automaton of these patterns with their values, in memory from `alloc`. Equal
+    /// patterns are all kept, in order.
     ///
-    /// Equal patterns are all kept, in order, and so are equal values. The automaton keeps `alloc`
-    /// and takes its memory from it.
-    ///
-    /// The patterns are gathered into a vector first, and the trie of the build is freed before the
-    /// call returns. `daachorse_tests` runs it.
-    ///
-    /// # Conditions
-    ///
-    /// The iterator over the patterns ends.
-    ///
-    /// # Errors
-    ///
-    /// The patterns are added in order: `InvalidArgument` for one of more than 4,294,967,295 bytes,
-    /// and `AutomatonScale` for one with which there are more than 4,294,967,295 texts that begin a
-    /// pattern. After the last, `AutomatonScale` for more than 16,777,215 patterns, and then where
-    /// the double array would need more than 4,294,967,295 elements, which it may only where more
-    /// than 16,777,214 texts begin a longer pattern. `OutOfMemory` where an allocation fails.
+    /// Fails with `InvalidArgument` at a pattern of more than 4,294,967,295 bytes, and with
+    /// `AutomatonScale` at one with which there are more than 4,294,967,295 distinct prefixes.
+    /// After the last, fails with `AutomatonScale` for more than 16,777,215 patterns, or if more
+    /// than 4,294,967,295 elements are needed; that takes more than 16,777,214 prefixes of longer
+    /// patterns. Fails with `OutOfMemory` if an allocation fails.
     pub fn build_with_values<'p, V, P: IntoIterator<Item = (&'p [u8], V)>>(
         self,
         alloc: A,
@@ -247,7 +184,7 @@ impl<A: Allocator + Copy> DoubleArrayAhoCorasickBuilder<A> {
     }
 }
 
-/// An automaton of these texts, each with the value of its index, as the settings read them.
+/// An automaton of these texts, each with the value of its index.
 fn from_texts<V: Copy + TryFrom<usize>, A: Allocator + Copy>(
     alloc: A,
     settings: &Settings<u8, A>,
@@ -263,7 +200,7 @@ where
     from_patterns(alloc, settings, &patterns)
 }
 
-/// An automaton of these patterns and values, as the settings read them.
+/// An automaton of these patterns, which are folded first if the settings ignore case.
 fn from_patterns<V: Copy, A: Allocator + Copy>(
     alloc: A,
     settings: &Settings<u8, A>,
@@ -281,7 +218,7 @@ fn from_patterns<V: Copy, A: Allocator + Copy>(
     from_read(alloc, settings, &folded)
 }
 
-/// An automaton of these patterns and values, which stand as the settings read them.
+/// An automaton of these patterns, which are folded already if the settings ignore case.
 fn from_read<V: Copy, A: Allocator + Copy>(
     alloc: A,
     settings: &Settings<u8, A>,
@@ -301,8 +238,7 @@ fn from_read<V: Copy, A: Allocator + Copy>(
     Ok(DoubleArrayAhoCorasick::of_states(alloc, states, folds, filter))
 }
 
-/// What searches of this kind over a corpus read of a trie: nothing is counted without a document.
-/// A table tells a standard search what each byte leads to from the root.
+/// How often searches over the corpus read each state. Standard ones step from the root by a table.
 fn profile_of<V: Copy, A: Allocator + Copy>(
     alloc: A,
     kind: MatchKind,

@@ -1,7 +1,4 @@
 //! A slice of bytes with its matches replaced.
-//!
-//! The layers above may rely on what comes out being the haystack with each match of the search that
-//! the automaton's kind names replaced, and on a beginning of it where a writer refuses.
 
 ghost use Rattle.std.specs.Prelude.{◌≡◌, ◌++◌, ℕ, List, IfErr, IfOk, OnErr, OnOk};
 ghost use Rattle.std.specs.Io.KnownBytes.{Appends};
@@ -21,25 +18,12 @@ use std::alloc::Allocator;
 use std::io::{self, Write};
 
 impl<V: Copy, A: Allocator> DoubleArrayAhoCorasick<V, A> {
-    /// Returns the haystack with each match of the search that the automaton's kind names replaced.
+    /// Returns the haystack with each match replaced by what `replacement` returns for it.
     ///
-    /// The matches are those of [`Self::find_iter`] where the kind is [`MatchKind::Standard`], and
-    /// those of [`Self::leftmost_find_iter`] where it is another. `replacement` is told each match
-    /// and the bytes of the haystack that it is, in order, and returns what stands in their place.
-    /// Of the patterns `ab` and `b`, both replaced by `-`, the haystack `abxb` becomes `-x-`. Where
-    /// the case of ASCII letters is disregarded, the haystack `aBXb` becomes `-X-`: no byte is
-    /// returned in another case. Memory is taken from `alloc` for what is returned, and for nothing
-    /// else.
-    ///
-    /// It costs that search, and one copy of what is returned. `daachorse_tests` runs it.
-    ///
-    /// # Conditions
-    ///
-    /// `replacement` may be called with whatever it is told.
-    ///
-    /// # Errors
-    ///
-    /// An allocation failed.
+    /// `replacement` also gets the part of the haystack that matched. The matches are those of
+    /// [`Self::find_iter`] for [`MatchKind::Standard`], and of [`Self::leftmost_find_iter`] for
+    /// another kind. Of `ab` and `b`, both replaced by `-`, `abxb` becomes `-x-`. The rest keeps
+    /// its case in any search. Fails only if an allocation fails.
     pub fn replace_all<'h, F: Fn(Match<V>, &'h [u8]) -> &'h [u8] + Drop, B: Allocator>(
         &self,
         alloc: B,
@@ -56,21 +40,10 @@ impl<V: Copy, A: Allocator> DoubleArrayAhoCorasick<V, A> {
         Ok(out)
     }
 
-    /// Writes the haystack with each match of the search that the automaton's kind names replaced.
+    /// Writes what [`Self::replace_all`] returns, with no memory. The writer is not flushed.
     ///
-    /// It is what [`Self::replace_all`] returns. No memory is taken, and the writer is not flushed.
-    ///
-    /// It costs that search, and two writes of all of a part for each match and one for the rest.
-    /// `daachorse_tests` runs it with a writer that takes little at a time.
-    ///
-    /// # Conditions
-    ///
-    /// `replacement` may be called with whatever it is told.
-    ///
-    /// # Errors
-    ///
-    /// The writer's first error, and [`WriteZero`](std::io::ErrorKind::WriteZero) where it takes none
-    /// of some bytes. What it took then is a beginning of what was to be written.
+    /// Fails with the writer's first error, or with [`WriteZero`](std::io::ErrorKind::WriteZero) if
+    /// it takes none of some bytes, after a prefix was written.
     pub fn replace_all_into<'h, F: Fn(Match<V>, &'h [u8]) -> &'h [u8] + Drop, W: Write>(
         &self,
         haystack: &'h [u8],
@@ -86,7 +59,6 @@ impl<V: Copy, A: Allocator> DoubleArrayAhoCorasick<V, A> {
         self.replace_by_kind::<F, W, ToWriter>(haystack, &replacement, out)
     }
 
-    // The search that the kind names, and its matches replaced in what goes to `out`.
     fn replace_by_kind<'h, F: Fn(Match<V>, &'h [u8]) -> &'h [u8], O, T: Appending<&'h [u8], O>>(
         &self,
         haystack: &'h [u8],

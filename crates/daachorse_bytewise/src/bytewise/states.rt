@@ -1,7 +1,4 @@
-//! The states of the automaton over bytes, which stand in a crate of their own.
-//!
-//! The layers above may rely on what `daachorse_bytewise_states` says of them: valid parts, and a
-//! look at one state alone, by which searches learn where to go.
+//! The states of the automaton over bytes, which have a crate of their own.
 
 pub use daachorse_bytewise_states::state::State;
 pub use daachorse_bytewise_states::states::States;

@@ -1,8 +1,4 @@
-//! The automaton over bytes, written and read back.
-//!
-//! The layers above may rely on the bytes being the written form of the automaton, and on a read of
-//! them giving the automaton back, whatever follows them. [`DoubleArrayAhoCorasick::deserialize`] reads any bytes,
-//! and refuses them exactly where they give no automaton.
+//! The automaton over bytes, written to bytes and read back.
 
 ghost use Rattle.std.specs.Prelude.{◌≡◌, ◌⊎◌, ◌++◌, ℕ, List, [], IfOk, IfErr};
 ghost use Rattle.daachorse_core.specs.Refusals.{IsOutOfMemory};
@@ -19,16 +15,8 @@ use daachorse_serializer::serializer::Serializable;
 use std::alloc::Allocator;
 
 impl<V: Serializable + Copy, A: Allocator> DoubleArrayAhoCorasick<V, A> {
-    /// Writes the automaton to bytes, whose memory is taken from `alloc`.
-    ///
-    /// Cached depths are not written. [`Self::deserialize`] reads the automaton back.
-    ///
-    /// The elements, the outputs and the filter are copied once, into one vector. `daachorse_tests`
-    /// compares whole written forms.
-    ///
-    /// # Errors
-    ///
-    /// An allocation failed.
+    /// Returns the written form of the automaton, in memory from `alloc`. Cached depths are not
+    /// written. Fails only if an allocation fails.
     pub fn serialize<B: Allocator>(&self, alloc: B) -> Result<Vec<u8, B>>
         ensures ok { IfOk result (λ bytes. bytes.items ≡ written_form V.form self.now) }
         ensures automaton { IsAutomaton V.is_value self.now }
@@ -39,30 +27,21 @@ impl<V: Serializable + Copy, A: Allocator> DoubleArrayAhoCorasick<V, A> {
 }
 
 impl<V: Serializable + Copy, A: Allocator + Copy> DoubleArrayAhoCorasick<V, A> {
-    /// Reads an automaton from any bytes, and returns it with the bytes behind it.
+    /// Reads an automaton from any bytes, and returns it with the bytes after it.
     ///
-    /// What is accepted is a right automaton, whoever wrote the bytes: its searches yield the
-    /// matches of the patterns that its listing has. What [`Self::serialize`] wrote is accepted, and gives an
-    /// automaton that equals the one that was written in all but the depths, which are not cached. It keeps `alloc`
-    /// and takes its memory from it.
+    /// The bytes need not be trusted: searches of an accepted automaton are right for the patterns
+    /// that it lists. The check takes memory linear in the bytes. No depths are cached.
     ///
-    /// The check takes memory that is linear in the bytes, until the call returns. `daachorse_uses`
-    /// looks words up in what it read so, and `daachorse_tests` reads changed bytes.
-    ///
-    /// # Errors
-    ///
-    /// Bytes that give no automaton, told as
-    /// [`InvalidAutomaton`](daachorse_core::errors::DaachorseError::InvalidAutomaton), or by another
-    /// error of a value's own read where that takes nothing of the bytes that it comes to, or out of
-    /// memory. Bytes with a filter that does not pass at the beginning of some
-    /// pattern give none, and nor do bytes with one of A to Z in some pattern where the searches are
-    /// to disregard the case of ASCII letters.
+    /// Fails with [`InvalidAutomaton`](daachorse_core::errors::DaachorseError::InvalidAutomaton) if
+    /// the bytes give no automaton, if the prefilter would miss a pattern, or if case is ignored
+    /// and a pattern has one of A to Z. Fails with the error of a value that cannot be read, or if
+    /// an allocation fails.
     pub fn deserialize(alloc: A, source: &[u8]) -> Result<(Self, &[u8])>
         ensures given { IfOk result (λ r. GivesAutomaton V.taken source.now r.0 r.1.now) }
         ensures depths { IfOk result (λ r. r.0.depths ≡ []) }
         ensures err { IfErr result (λ e. IsOutOfMemory e ⊎ GivesNoAutomaton V.taken source.now) }
         ensures cause { IfErr result (IsReadRefusal (IsOfParts V.taken V.own_refusal source.now)) }
-        // Of what was written.
+        // What was written is read back.
         ensures back { IfOk result (λ r. (a : Automaton V) (rest : List ℕ) → IsAutomaton V.is_value a → source.now ≡ written_form V.form a ++ rest
             → (r.0 ≡ without_depths a) × (r.1.now ≡ rest)) }
         ensures memory { IfErr result (λ e. BeginsWithAutomaton V.is_value V.form source.now → IsOutOfMemory e) }
@@ -78,22 +57,10 @@ impl<V: Serializable + Copy, A: Allocator + Copy> DoubleArrayAhoCorasick<V, A> {
         Ok((Self::of_states(alloc, states, folds, filter), rest))
     }
 
-    /// Reads an automaton that was written, and returns it with the bytes behind it.
+    /// Reads an automaton that [`Self::serialize`] wrote, and returns it with the bytes after it.
     ///
-    /// It equals the automaton that was written in all but the depths, which are not cached. It
-    /// keeps `alloc` and takes its memory from it.
-    ///
-    /// It makes none of the checks of [`Self::deserialize`], and takes memory for the automaton
-    /// alone. `daachorse_tests` runs it.
-    ///
-    /// # Conditions
-    ///
-    /// The bytes begin with the written form of an automaton, as [`Self::serialize`] makes it. For
-    /// bytes that may hold anything else, such as those of a stranger, use [`Self::deserialize`].
-    ///
-    /// # Errors
-    ///
-    /// An allocation failed.
+    /// It checks nothing, and takes memory for the automaton alone. Use [`Self::deserialize`] for
+    /// bytes that may hold anything else. Fails only if an allocation fails.
     pub fn deserialize_unchecked(alloc: A, source: &[u8]) -> Result<(Self, &[u8])>
         requires { BeginsWithAutomaton V.is_value V.form source.now }
         ensures ok { IfOk result (λ r. (a : Automaton V) (rest : List ℕ) → IsAutomaton V.is_value a → source.now ≡ written_form V.form a ++ rest

@@ -1,8 +1,4 @@
 //! An automaton over characters with rows of the states near its root, for faster searches.
-//!
-//! The layers above may rely on each search giving the whole list that the automaton's own search of
-//! its name gives, with at most as many turns as are promised there, and on a stepper telling the matches
-//! that that of its name tells.
 
 ghost use Rattle.std.specs.Prelude.{◌≡◌, ◌≢◌, [], IfOk, IfSome, IfErr, encode_utf8_all, take};
 ghost use Rattle.std.specs.Option.{option_to_list};
@@ -29,6 +25,8 @@ use crate::charwise::iter::accelerated::{
 use crate::charwise::{CharwiseDoubleArrayAhoCorasick, states};
 use daachorse_charwise_states::for_rows::ForRows;
 use daachorse_core::errors::Result;
+use daachorse_prefilter::beginnings::{BEGINNING, Beginnings, FEW_STATES};
+use daachorse_prefilter::skipping::Skipping;
 use daachorse_rows::rows::Rows;
 use daachorse_rows::view::RowView;
 use daachorse_search::find::{FindWalk, find_in};
@@ -37,28 +35,22 @@ use daachorse_search::matches_from::MatchesFrom;
 use daachorse_search::overlapping::{
     NoSuffixWalk, OverlappingWalk, find_overlapping_in, find_overlapping_no_suffix_in,
 };
-use daachorse_prefilter::beginnings::{BEGINNING, Beginnings, FEW_STATES};
-use daachorse_prefilter::skipping::Skipping;
 use daachorse_text::decoding::Decoded;
 use daachorse_text::text::Text;
 use std::alloc::{Allocator, Global};
 use std::marker::Model;
 
-/// An automaton over characters, which it borrows, and rows of the states near its root.
+/// A borrowed automaton with rows of the states near its root. Searches find the same matches.
 ///
-/// A row tells of each ASCII character, and of each other that is among the 510 most frequent characters of
-/// the patterns, where the whole step ends, if that is a state with a row, so that a search takes one look
-/// for such a character while it goes from row to row, and follows no link. Elsewhere it looks at the
-/// automaton as any search does. Where no step leads out of the rows, each standard search and stepper takes
-/// at most one turn for each character. What is found is the same.
-///
-/// [`CharwiseDoubleArrayAhoCorasick::accelerate`] makes it, and tells when to use it and what it
-/// takes.
+/// A row gives for each ASCII character, and each other that is among the 510 most frequent of the
+/// patterns, the state at which the whole step ends, so that a search takes one look for each such
+/// character while it stays in rows, and follows no failure link. If no step leaves the rows, each
+/// standard search and stepper takes at most one turn for each character.
 #[derive(Drop)]
 pub struct Accelerated<'a, V: Copy, A: Allocator = Global> {
     automaton: &'a CharwiseDoubleArrayAhoCorasick<V, A>,
     rows: Rows<A>,
-    // What the patterns begin with, which a search in a text asks where the filter passes.
+    // Asked by searches in a text after the prefilter passes.
     beginnings: Option<Beginnings<A>>,
 }
 
@@ -79,32 +71,17 @@ impl<'a, V: Copy, A: Allocator> Model for Accelerated<'a, V, A> {
 impl<V: Copy, A: Allocator + Copy> CharwiseDoubleArrayAhoCorasick<V, A> {
     /// Makes rows of the states near the root, for faster searches.
     ///
-    /// Each text of at most two characters that begins a pattern has a row, if these are ASCII or among the
-    /// 510 most frequent ones of the patterns, and so have longer ones while there is room. The answer is
-    /// `None` where those alone are more than there is room for: a row has three slots and one for each of
-    /// these characters, up to a multiple of four, and there are 126,336 slots, which are at least 196
-    /// rows. Where at most 196 texts begin a pattern, and no more than 510 characters occur, each has a
-    /// row, and each standard search and stepper takes at most one turn for each character.
+    /// Each prefix of at most two characters that are ASCII or among the 510 most frequent of the
+    /// patterns gets a row, or the call returns `None` if there is no room for these. Longer
+    /// prefixes get rows while there is room. A row has three slots and one for each of these
+    /// characters, rounded up to a multiple of four, and the 126,336 slots are at least 196 rows.
     ///
-    /// Use it where much is searched for up to some thousand words of few different characters.
-    /// With many characters, as in 1,000 Japanese words, there is no room for rows. `docs/SPEED.md`
-    /// has what was measured.
+    /// Use it to search much text for up to some thousand words of few different characters. With
+    /// many, as in 1,000 Japanese words, there is no room (`docs/SPEED.md`).
     ///
-    /// Of the patterns `aß` and `ß` in the haystack `aß` the search
-    /// [`Accelerated::find_overlapping_iter`] finds `aß` from 0 to 3 and `ß` from 1 to 3
-    /// (`daachorse_tests` runs this).
-    ///
-    /// Where the automaton has a filter, at least 8,192 states and no pattern of less than four bytes, a
-    /// table of 8,192 bytes tells which four bytes patterns begin with. A search in a text asks it
-    /// where the filter passes.
-    ///
-    /// It borrows the automaton, and takes at most 256 KiB and two bytes for each element. While it is made,
-    /// lists of the characters and of the states with rows stand beside these, and then a walk over the
-    /// patterns. The work grows with the elements, the characters and the slots; it has no bound by proof.
-    ///
-    /// # Errors
-    ///
-    /// An allocation failed.
+    /// With a prefilter, at least 8,192 states and no pattern of less than four bytes, searches in
+    /// a text also ask a table of 8,192 bytes which four bytes patterns begin with. In all this
+    /// takes at most 256 KiB and two bytes for each element. Fails only if an allocation fails.
     pub fn accelerate<'a>(&'a self, alloc: A) -> Result<Option<Accelerated<'a, V, A>>>
         ensures automaton { IfOk result (λ a. IfSome a (λ a. a.automaton ≡ self.entry.now)) }
         ensures covered { IfOk result (λ a. IfSome a HasRowsNear) }
@@ -124,14 +101,8 @@ impl<V: Copy, A: Allocator + Copy> CharwiseDoubleArrayAhoCorasick<V, A> {
         }))
     }
 
-    /// What the patterns begin with, where that tells more than the filter.
-    ///
-    /// It tells nothing where there is no filter, where the states are few, since the filter then passes at
-    /// little else than these beginnings, and where some pattern is shorter than a beginning.
-    ///
-    /// # Errors
-    ///
-    /// An allocation failed.
+    /// The table of pattern beginnings, if there is a prefilter and no pattern is too short. With
+    /// few states the prefilter passes at little else, and there is none.
     fn beginnings(&self, alloc: A) -> Result<Option<Beginnings<A>>>
         ensures told { IfOk result (MayTell encode_utf8_all (dictionary_of self.now)) }
         ensures err { IfErr result IsOutOfMemory }
@@ -153,7 +124,7 @@ impl<V: Copy, A: Allocator + Copy> CharwiseDoubleArrayAhoCorasick<V, A> {
 }
 
 impl<V: Copy, A: Allocator> CharwiseDoubleArrayAhoCorasick<V, A> {
-    /// What the standard searches see of the states.
+    /// The states as standard searches see them.
     #[inline(always)]
     fn standard<'s>(&'s self) -> states::Standard<'s, V>
         requires { kind_of self.now ≡ Standard }
@@ -162,7 +133,7 @@ impl<V: Copy, A: Allocator> CharwiseDoubleArrayAhoCorasick<V, A> {
         self.states.standard()
     }
 
-    /// What the leftmost searches see of the states.
+    /// The states as leftmost searches see them.
     #[inline(always)]
     fn leftmost<'s>(&'s self) -> states::Leftmost<'s, V>
         requires { kind_of self.now ≢ Standard }
@@ -174,15 +145,13 @@ impl<V: Copy, A: Allocator> CharwiseDoubleArrayAhoCorasick<V, A> {
 
 impl<'a, V: Copy, A: Allocator> Accelerated<'a, V, A> {
     /// Returns the automaton whose states have the rows.
-    ///
-    /// It is borrowed, and nothing is copied. `daachorse_tests` asks it for its kind.
     pub fn automaton(&self) -> &'a CharwiseDoubleArrayAhoCorasick<V, A>
         ensures { result.now ≡ self.now.automaton }
     {
         self.automaton
     }
 
-    /// What the standard searches see of the states and their rows.
+    /// The states and their rows as standard searches see them.
     #[inline(always)]
     fn standard<'s>(&'s self) -> RowView<'s, V, states::StandardForRows<'s, V>>
         requires { kind_of self.now.automaton ≡ Standard }
@@ -191,7 +160,7 @@ impl<'a, V: Copy, A: Allocator> Accelerated<'a, V, A> {
         self.rows.view(ForRows::new(self.automaton.standard()))
     }
 
-    /// What the leftmost searches see of the states and their rows.
+    /// The states and their rows as leftmost searches see them.
     #[inline(always)]
     fn leftmost<'s>(&'s self) -> RowView<'s, V, states::LeftmostForRows<'s, V>>
         requires { kind_of self.now.automaton ≢ Standard }
@@ -200,8 +169,7 @@ impl<'a, V: Copy, A: Allocator> Accelerated<'a, V, A> {
         self.rows.view(ForRows::new(self.automaton.leftmost()))
     }
 
-    /// What a search in a text asks: the filter of the automaton, if it has one, behind an open gate, and
-    /// where it passes what the patterns begin with.
+    /// The prefilter for a new search in a text, followed by the table of pattern beginnings.
     #[inline(always)]
     fn skipping<'s>(&'s self) -> Skipping<'s, A>
         ensures asks { BeginsAskingBoth self.entry.now.beginnings self.entry.now.automaton.filter result }
@@ -212,22 +180,7 @@ impl<'a, V: Copy, A: Allocator> Accelerated<'a, V, A> {
             .with_beginnings(self.beginnings.as_ref())
     }
 
-    /// Finds non-overlapping matches in a haystack, each of which ends as early as possible.
-    ///
-    /// They are the matches of [`CharwiseDoubleArrayAhoCorasick::find_iter`], where the rest is
-    /// said of which is taken.
-    ///
-    /// Places count the bytes of the text. Of the patterns `bcd`, `ab` and `a`, in this order, in
-    /// the haystack `abcd` it finds `a` from 0 to 1 and `bcd` from 1 to 4 (`daachorse_tests` runs
-    /// this).
-    ///
-    /// It takes at most two turns, which are looks at one state, for each character of the
-    /// haystack, and no memory.
-    ///
-    /// # Conditions
-    ///
-    /// The automaton is for the standard searches: its kind is
-    /// [`MatchKind::Standard`](daachorse_core::MatchKind::Standard).
+    /// As [`CharwiseDoubleArrayAhoCorasick::find_iter`], over rows.
     #[inline(always)]
     #[tactic(auto, using(daachorse_charwise_states::proofs::DeadLaws::alive))]
     pub fn find_iter<'s>(&'s self, haystack: &'s str) -> FindSliceIterator<'s, V, A>
@@ -243,20 +196,7 @@ impl<'a, V: Copy, A: Allocator> Accelerated<'a, V, A> {
         )
     }
 
-    /// Finds non-overlapping matches in the text whose bytes `haystack` yields.
-    ///
-    /// They are the matches of [`Self::find_iter`]. Each is returned before a byte past its end is
-    /// taken; with an empty pattern, before the byte behind its place is taken.
-    ///
-    /// Places count bytes from where the source stands. It takes at most two turns, which are looks
-    /// at one state, for each character that it takes, and no memory. `daachorse_tests` runs it
-    /// over the same haystacks as [`Self::find_iter`].
-    ///
-    /// # Conditions
-    ///
-    /// The automaton is for the standard searches: its kind is
-    /// [`MatchKind::Standard`](daachorse_core::MatchKind::Standard). What may be read of the source
-    /// is a condition of the search's `next`.
+    /// As [`CharwiseDoubleArrayAhoCorasick::find_iter_from_iter`], over rows.
     #[inline(always)]
     #[tactic(auto, using(daachorse_charwise_states::proofs::DeadLaws::alive))]
     pub fn find_iter_from_iter<'s, P: Iterator<Item = u8>>(
@@ -274,22 +214,7 @@ impl<'a, V: Copy, A: Allocator> Accelerated<'a, V, A> {
         )
     }
 
-    /// Finds every match in a haystack, also those that overlap.
-    ///
-    /// They are the matches of [`CharwiseDoubleArrayAhoCorasick::find_overlapping_iter`], in its
-    /// order: by rising ends, and of those that end together the longest first.
-    ///
-    /// Places count the bytes of the text. Of the patterns `bcd`, `ab` and `a`, in this order, in
-    /// the haystack `abcd` it finds `a` from 0 to 1, `ab` from 0 to 2 and `bcd` from 1 to 4
-    /// (`daachorse_tests` runs this).
-    ///
-    /// It takes at most two turns, which are looks at one state, for each character of the
-    /// haystack, and no memory.
-    ///
-    /// # Conditions
-    ///
-    /// The automaton is for the standard searches: its kind is
-    /// [`MatchKind::Standard`](daachorse_core::MatchKind::Standard).
+    /// As [`CharwiseDoubleArrayAhoCorasick::find_overlapping_iter`], over rows.
     #[inline(always)]
     #[tactic(auto, using(daachorse_charwise_states::proofs::DeadLaws::alive))]
     pub fn find_overlapping_iter<'s>(
@@ -308,20 +233,7 @@ impl<'a, V: Copy, A: Allocator> Accelerated<'a, V, A> {
         )
     }
 
-    /// Finds every match in the text whose bytes `haystack` yields.
-    ///
-    /// They are the matches of [`Self::find_overlapping_iter`]. Each is returned before a byte past
-    /// its end is taken.
-    ///
-    /// Places count bytes from where the source stands. It takes at most two turns, which are looks
-    /// at one state, for each character that it takes, and no memory. `daachorse_tests` runs it
-    /// over the same haystacks as [`Self::find_overlapping_iter`].
-    ///
-    /// # Conditions
-    ///
-    /// The automaton is for the standard searches: its kind is
-    /// [`MatchKind::Standard`](daachorse_core::MatchKind::Standard). What may be read of the source
-    /// is a condition of the search's `next`.
+    /// As [`CharwiseDoubleArrayAhoCorasick::find_overlapping_iter_from_iter`], over rows.
     #[inline(always)]
     #[tactic(auto, using(daachorse_charwise_states::proofs::DeadLaws::alive))]
     pub fn find_overlapping_iter_from_iter<'s, P: Iterator<Item = u8>>(
@@ -339,22 +251,7 @@ impl<'a, V: Copy, A: Allocator> Accelerated<'a, V, A> {
         )
     }
 
-    /// Finds the longest match at each end in a haystack.
-    ///
-    /// They are the matches of [`CharwiseDoubleArrayAhoCorasick::find_overlapping_no_suffix_iter`],
-    /// in its order: by rising ends.
-    ///
-    /// Places count the bytes of the text. Of the patterns `abcd`, `cd` and `bc` in the haystack
-    /// `abcd` it finds `bc` from 1 to 3 and `abcd` from 0 to 4, and not `cd`, which ends `abcd`
-    /// (`daachorse_tests` runs this).
-    ///
-    /// It takes at most two turns, which are looks at one state, for each character of the
-    /// haystack, and no memory.
-    ///
-    /// # Conditions
-    ///
-    /// The automaton is for the standard searches: its kind is
-    /// [`MatchKind::Standard`](daachorse_core::MatchKind::Standard).
+    /// As [`CharwiseDoubleArrayAhoCorasick::find_overlapping_no_suffix_iter`], over rows.
     #[inline(always)]
     #[tactic(auto, using(daachorse_charwise_states::proofs::DeadLaws::alive))]
     pub fn find_overlapping_no_suffix_iter<'s>(
@@ -373,20 +270,7 @@ impl<'a, V: Copy, A: Allocator> Accelerated<'a, V, A> {
         )
     }
 
-    /// Finds the longest match at each end in the text whose bytes `haystack` yields.
-    ///
-    /// They are the matches of [`Self::find_overlapping_no_suffix_iter`]. Each is returned before a
-    /// byte past its end is taken.
-    ///
-    /// Places count bytes from where the source stands. It takes at most two turns, which are looks
-    /// at one state, for each character that it takes, and no memory. `daachorse_tests` runs it
-    /// over the same haystacks as [`Self::find_overlapping_no_suffix_iter`].
-    ///
-    /// # Conditions
-    ///
-    /// The automaton is for the standard searches: its kind is
-    /// [`MatchKind::Standard`](daachorse_core::MatchKind::Standard). What may be read of the source
-    /// is a condition of the search's `next`.
+    /// As [`CharwiseDoubleArrayAhoCorasick::find_overlapping_no_suffix_iter_from_iter`], over rows.
     #[inline(always)]
     #[tactic(auto, using(daachorse_charwise_states::proofs::DeadLaws::alive))]
     pub fn find_overlapping_no_suffix_iter_from_iter<'s, P: Iterator<Item = u8>>(
@@ -404,25 +288,7 @@ impl<'a, V: Copy, A: Allocator> Accelerated<'a, V, A> {
         )
     }
 
-    /// Finds non-overlapping matches in a haystack, each of which starts as early as possible.
-    ///
-    /// They are the matches of [`CharwiseDoubleArrayAhoCorasick::leftmost_find_iter`], where it is
-    /// said which of those that start together is taken.
-    ///
-    /// Places count the bytes of the text. Of the patterns `ab`, `a` and `abcd`, in this order, in
-    /// the haystack `abcd` an automaton for
-    /// [`MatchKind::LeftmostLongest`](daachorse_core::MatchKind::LeftmostLongest) finds `abcd`, and
-    /// one for [`MatchKind::LeftmostFirst`](daachorse_core::MatchKind::LeftmostFirst) finds `ab`
-    /// (`daachorse_tests` runs this).
-    ///
-    /// It takes no memory. After `g` matches it has taken at most two turns, which are looks at one
-    /// state, for each character that it passed, and four times the characters of the longest
-    /// pattern for each match.
-    ///
-    /// # Conditions
-    ///
-    /// The automaton is for a leftmost search: its kind is not
-    /// [`MatchKind::Standard`](daachorse_core::MatchKind::Standard).
+    /// As [`CharwiseDoubleArrayAhoCorasick::leftmost_find_iter`], over rows.
     #[inline(always)]
     #[tactic(auto, using(daachorse_charwise_states::proofs::DeadLaws::is_leftmost_automaton))]
     pub fn leftmost_find_iter<'s>(&'s self, haystack: &'s str) -> LeftmostFindIterator<'s, V, A>
@@ -438,17 +304,7 @@ impl<'a, V: Copy, A: Allocator> Accelerated<'a, V, A> {
         )
     }
 
-    /// Starts the search of [`Self::find_iter`], to be given one character at a time.
-    ///
-    /// After each character that `consume` is given, `matches` tells the match that ends there, if
-    /// there is one. In all it takes at most two turns, which are looks at one state, for each
-    /// character that it is given, and no memory. It tells no depths, even where the automaton has
-    /// them cached. `daachorse_tests` runs it over the haystacks of [`Self::find_iter`].
-    ///
-    /// # Conditions
-    ///
-    /// The automaton is for the standard searches: its kind is
-    /// [`MatchKind::Standard`](daachorse_core::MatchKind::Standard).
+    /// As [`CharwiseDoubleArrayAhoCorasick::find_stepper`], over rows and without depths.
     #[inline(always)]
     #[tactic(auto, using(daachorse_charwise_states::proofs::DeadLaws::alive))]
     pub fn find_stepper<'s>(&'s self) -> FindStepper<'s, V>
@@ -460,18 +316,8 @@ impl<'a, V: Copy, A: Allocator> Accelerated<'a, V, A> {
         FindStepper::new(self.standard(), &[], folds)
     }
 
-    /// Starts the search of [`Self::find_overlapping_iter`], to be given one character at a time.
-    ///
-    /// After each character that `consume` is given, `matches` tells all matches that end there,
-    /// the longest first. In all it takes at most two turns, which are looks at one state, for each
-    /// character that it is given, and no memory. It tells no depths, even where the automaton has
-    /// them cached. `daachorse_tests` runs it over the haystacks of
-    /// [`Self::find_overlapping_iter`].
-    ///
-    /// # Conditions
-    ///
-    /// The automaton is for the standard searches: its kind is
-    /// [`MatchKind::Standard`](daachorse_core::MatchKind::Standard).
+    /// As [`CharwiseDoubleArrayAhoCorasick::find_overlapping_stepper`], over rows and without
+    /// depths.
     #[inline(always)]
     #[tactic(auto, using(daachorse_charwise_states::proofs::DeadLaws::alive))]
     pub fn find_overlapping_stepper<'s>(&'s self) -> FindOverlappingStepper<'s, V>

@@ -1,9 +1,4 @@
 //! The builder of the automaton over characters.
-//!
-//! The layers above may rely on a build holding just the dictionary of its patterns, as its option
-//! reads them, for the builder's kind, with codes for the characters of all of them, and on the
-//! order of its refusals: all indexes are converted first, then the patterns are added in order, and
-//! the limits on the outputs and on the elements are tested last; the first refusal ends the build.
 
 ghost use Rattle.std.specs.Prelude.{◌≡◌, ◌⊎◌, false, true, None, length, map, IfOk, IfErr, IsSomeAnd};
 ghost use Rattle.std.specs.Iterator.{IsFinite};
@@ -36,10 +31,6 @@ use std::alloc::{Allocator, Global};
 use std::marker::Model;
 
 /// A builder of [`CharwiseDoubleArrayAhoCorasick`].
-///
-/// It keeps the kind, whether there is to be a filter, whether the case of ASCII letters is
-/// disregarded, and a copy of the documents that it was given. `daachorse_tests` builds with each
-/// of them.
 #[derive(Drop)]
 pub struct CharwiseDoubleArrayAhoCorasickBuilder<A: Allocator = Global> {
     settings: Settings<char, A>,
@@ -62,16 +53,14 @@ impl<A: Allocator> Default for CharwiseDoubleArrayAhoCorasickBuilder<A> {
 
     ghost is_default = { λ b. (b.match_kind ≡ Standard) × (b.use_prefilter ≡ true) × (b.corpus ≡ None) × (b.ascii_case_insensitive ≡ false) };
 
-    /// Makes the builder that [`CharwiseDoubleArrayAhoCorasickBuilder::new`] makes.
+    /// The same as [`CharwiseDoubleArrayAhoCorasickBuilder::new`].
     fn default() -> Self {
         Self::new()
     }
 }
 
 impl<A: Allocator> CharwiseDoubleArrayAhoCorasickBuilder<A> {
-    /// Makes a builder of automata for the standard searches, with a filter and without a corpus.
-    ///
-    /// It takes no memory.
+    /// Returns a builder for the standard searches: case-sensitive, with a prefilter and no corpus.
     pub fn new() -> Self
         ensures kind { result.match_kind ≡ Standard }
         ensures filter { result.use_prefilter ≡ true }
@@ -84,8 +73,6 @@ impl<A: Allocator> CharwiseDoubleArrayAhoCorasickBuilder<A> {
     }
 
     /// Sets the kind of searches that the automaton is built for.
-    ///
-    /// The one that was set last holds. `quick_start` and `daachorse_tests` set it.
     pub fn match_kind(mut self, kind: MatchKind) -> Self
         ensures { result ≡ record self { match_kind = kind } }
     {
@@ -93,15 +80,9 @@ impl<A: Allocator> CharwiseDoubleArrayAhoCorasickBuilder<A> {
         self
     }
 
-    /// Sets whether the automaton gets a filter, which tells searches in a haystack where no
-    /// pattern begins. It does by default.
+    /// Sets whether the automaton gets a prefilter, as it does by default. No match depends on it.
     ///
-    /// A build makes the filter of the UTF-8 of all patterns, and keeps none where there is no
-    /// pattern, where one has fewer than 2 bytes, or where the filter would pass too often. What a
-    /// search yields is the same with a filter and without.
-    ///
-    /// The filter takes memory beside the states, and what it passes over takes no turn.
-    /// `daachorse_tests` builds with and without.
+    /// None is kept without patterns, with one under 2 bytes, or if it would pass too often.
     pub fn use_prefilter(mut self, yes: bool) -> Self
         ensures { result ≡ record self { use_prefilter = yes } }
     {
@@ -109,18 +90,11 @@ impl<A: Allocator> CharwiseDoubleArrayAhoCorasickBuilder<A> {
         self
     }
 
-    /// Sets whether the searches of the automaton disregard the case of ASCII letters. They do not
-    /// by default.
+    /// Sets whether searches ignore the case of ASCII letters. They do not by default.
     ///
-    /// Where they do, A to Z are read as a to z, and every other character as it is: of each
-    /// pattern and each document in a build, and of each haystack in a search. So the automaton
-    /// holds its patterns in lower case, a listing shows them so, and patterns that differ in
-    /// nothing but case are equal. The places of a match are those of the haystack as it was given.
-    /// With `Ab` as a pattern a search finds `ab`, `aB`, `Ab` and `AB`.
-    ///
-    /// A build takes memory for a copy of the patterns until it returns. A search looks at the
-    /// option once in a call, and where it is set reads each character in a few steps more.
-    /// `daachorse_tests` builds with and without.
+    /// If they do, A to Z are read as a to z in patterns, corpus and haystacks. Patterns are then
+    /// held and listed in lower case, and those that differ in case alone are equal. A build takes
+    /// memory for a copy of the patterns.
     pub fn ascii_case_insensitive(mut self, yes: bool) -> Self
         ensures { result ≡ record self { ascii_case_insensitive = yes } }
     {
@@ -130,22 +104,8 @@ impl<A: Allocator> CharwiseDoubleArrayAhoCorasickBuilder<A> {
 }
 
 impl<A: Allocator + Copy> CharwiseDoubleArrayAhoCorasickBuilder<A> {
-    /// Sets the documents by which the states of the automaton are laid out: the states that
-    /// searches over them read most often stand closest together. They are copied, and take the
-    /// place of those that were set before.
-    ///
-    /// A search in the automaton, and what it lists, is the same with any documents and with none.
-    ///
-    /// A build reads each document once, over the trie of the patterns. `daachorse_tests` lays out
-    /// by documents.
-    ///
-    /// # Conditions
-    ///
-    /// The iterator over the documents ends.
-    ///
-    /// # Errors
-    ///
-    /// An allocation failed.
+    /// Sets sample haystacks, which are copied. The states that searches over them read most often
+    /// are laid out closest together. No match depends on it. Fails only if an allocation fails.
     pub fn corpus<'d, D: IntoIterator<Item = &'d str>>(
         mut self,
         alloc: A,
@@ -166,23 +126,10 @@ impl<A: Allocator + Copy> CharwiseDoubleArrayAhoCorasickBuilder<A> {
         Ok(self)
     }
 
-    /// Builds an automaton of these patterns.
+    /// Builds an automaton of these patterns. Pattern `i`, from 0, gets the value of the index `i`.
     ///
-    /// Pattern `i`, counted from 0, has the value that the index `i` converts to. Equal patterns
-    /// are all kept. The automaton keeps `alloc` and takes its memory from it.
-    ///
-    /// The patterns are gathered into a vector first, and the trie of the build is freed before the
-    /// call returns. `quick_start` runs it.
-    ///
-    /// # Conditions
-    ///
-    /// The iterator over the patterns ends.
-    ///
-    /// # Errors
-    ///
-    /// `InvalidConversion` where an index has no value: all indexes are converted before the first
-    /// pattern is added. Then the errors of
-    /// [`CharwiseDoubleArrayAhoCorasickBuilder::build_with_values`].
+    /// Fails first with `InvalidConversion` if an index has no value, and then as
+    /// [`Self::build_with_values`].
     pub fn build<'p, V, P: IntoIterator<Item = &'p str>>(
         self,
         alloc: A,
@@ -205,26 +152,15 @@ impl<A: Allocator + Copy> CharwiseDoubleArrayAhoCorasickBuilder<A> {
         from_texts(alloc, &settings, &texts)
     }
 
-    /// Builds an automaton of these patterns, each with its value.
+    /// Builds an automaton of these patterns with their values, in memory from `alloc`. Equal
+    /// patterns are all kept, in order.
     ///
-    /// Equal patterns are all kept, in order, and so are equal values. The automaton keeps `alloc`
-    /// and takes its memory from it.
-    ///
-    /// The patterns are gathered into a vector first, and the trie of the build is freed before the
-    /// call returns. `daachorse_tests` runs it.
-    ///
-    /// # Conditions
-    ///
-    /// The iterator over the patterns ends.
-    ///
-    /// # Errors
-    ///
-    /// The patterns are added in order: `InvalidArgument` for one of more than 4,294,967,295 bytes,
-    /// and `AutomatonScale` for one with which there are more than 4,294,967,295 texts that begin a
-    /// pattern. After the last, `AutomatonScale` for more than 4,294,967,295 outputs, and then
-    /// where the double array would need 4,294,967,296 elements or more, in whole blocks; a block
-    /// is as long as the least power of two that is at least 2 and at least the number of
-    /// characters of the patterns. `OutOfMemory` where an allocation fails.
+    /// Fails with `InvalidArgument` at a pattern of more than 4,294,967,295 bytes, and with
+    /// `AutomatonScale` at one with which there are more than 4,294,967,295 distinct prefixes.
+    /// After the last, fails with `AutomatonScale` for more than 4,294,967,295 outputs, or if
+    /// 4,294,967,296 elements or more are needed, in whole blocks: a block is the least power of
+    /// two that is at least 2 and the number of distinct characters. Fails with `OutOfMemory` if an
+    /// allocation fails.
     pub fn build_with_values<'p, V, P: IntoIterator<Item = (&'p str, V)>>(
         self,
         alloc: A,
@@ -247,7 +183,7 @@ impl<A: Allocator + Copy> CharwiseDoubleArrayAhoCorasickBuilder<A> {
     }
 }
 
-/// An automaton of these texts, each with the value of its index, as the settings read them.
+/// An automaton of these texts, each with the value of its index.
 fn from_texts<V: Copy + TryFrom<usize>, A: Allocator + Copy>(
     alloc: A,
     settings: &Settings<char, A>,
@@ -263,7 +199,7 @@ where
     from_patterns(alloc, settings, &patterns)
 }
 
-/// An automaton of these patterns and values, as the settings read them.
+/// An automaton of these patterns, which are folded first if the settings ignore case.
 fn from_patterns<V: Copy, A: Allocator + Copy>(
     alloc: A,
     settings: &Settings<char, A>,
@@ -281,7 +217,7 @@ fn from_patterns<V: Copy, A: Allocator + Copy>(
     from_read(alloc, settings, &folded)
 }
 
-/// An automaton of these patterns and values, which stand as the settings read them.
+/// An automaton of these patterns, which are folded already if the settings ignore case.
 fn from_read<V: Copy, A: Allocator + Copy>(
     alloc: A,
     settings: &Settings<char, A>,
@@ -303,8 +239,7 @@ fn from_read<V: Copy, A: Allocator + Copy>(
     Ok(CharwiseDoubleArrayAhoCorasick::of_states(alloc, states, folds, filter))
 }
 
-/// What searches over a corpus read of a trie, where a character without a code is no label:
-/// nothing is counted without a document.
+/// How often searches over the corpus read each state. A character without a code is no label.
 fn profile_of<V: Copy, A: Allocator + Copy>(
     alloc: A,
     corpus: &Option<Corpus<char, A>>,

@@ -1,7 +1,4 @@
-//! What the search that the automaton's kind names finds first in a text.
-//!
-//! The layers above may rely on the first of all the matches of that search, of whatever kind the
-//! automaton is, and on an answer that says whether a pattern occurs anywhere.
+//! The first match of the search that an automaton's kind names.
 
 ghost use Rattle.std.specs.Prelude.{◌≡◌, ◌≢◌, ◌↔◌, IsTrue, [], slice_get};
 ghost use Rattle.std.specs.Str.{chars};
@@ -16,16 +13,11 @@ use daachorse_core::{Match, MatchKind};
 use std::alloc::Allocator;
 
 impl<V: Copy, A: Allocator> CharwiseDoubleArrayAhoCorasick<V, A> {
-    /// Finds the first match of the search that the automaton's kind names, if there is one.
+    /// Returns the first match of [`Self::find_iter`] for [`MatchKind::Standard`], and of
+    /// [`Self::leftmost_find_iter`] for another kind.
     ///
-    /// It is the first match that [`Self::find_iter`] yields where the kind is
-    /// [`MatchKind::Standard`], and the first that [`Self::leftmost_find_iter`] yields where it is
-    /// another. In the code it is one call of that iterator's `next`, and no memory is taken. Of the
-    /// patterns `ab` and `abcd` in the haystack `xabcd`, a standard automaton finds `ab` from 1 to 3,
-    /// and one for [`MatchKind::LeftmostLongest`] finds `abcd` from 1 to 5.
-    ///
-    /// Places count bytes of the text. It costs what the first step of that search costs.
-    /// `daachorse_tests` runs it.
+    /// Of `ab` and `abcd` in `xabcd`, [`MatchKind::Standard`] finds `ab` from 1 to 3, and
+    /// [`MatchKind::LeftmostLongest`] `abcd` from 1 to 5.
     pub fn find(&self, haystack: &str) -> Option<Match<V>>
         ensures { result ≡ slice_get (non_overlapping (kind_of self.now) char_width (dictionary_of self.now) (as_read self.now.folds (chars haystack.now))) 0 }
     {
@@ -37,13 +29,7 @@ impl<V: Copy, A: Allocator> CharwiseDoubleArrayAhoCorasick<V, A> {
         }
     }
 
-    /// Returns whether some pattern that the automaton holds occurs in the haystack.
-    ///
-    /// In the code it is a call of [`Self::find`], whatever the automaton's kind, and no memory is
-    /// taken. The patterns `ab` and `cd` occur in the haystack `xcdx`, and neither occurs in `acbd`.
-    /// An empty pattern occurs in every haystack, the empty one included.
-    ///
-    /// It costs what [`Self::find`] costs. `daachorse_tests` runs it.
+    /// Returns whether a pattern occurs in the haystack. An empty one always does.
     pub fn is_match(&self, haystack: &str) -> bool
         ensures { IsTrue result ↔ (overlapping char_width (dictionary_of self.now) (as_read self.now.folds (chars haystack.now)) ≢ []) }
     {

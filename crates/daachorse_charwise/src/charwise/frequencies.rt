@@ -1,7 +1,4 @@
 //! How often each character occurs in patterns.
-//!
-//! The layers above may rely on each character's count being there at its code point, and on
-//! patterns being of characters alone.
 
 ghost use Rattle.std.specs.Prelude.{◌≡◌, ◌+◌, ◌≤◌, ℕ, List, length, map, min, slice_index, IsTrue, IfOk, IfErr, OnOk};
 ghost use Rattle.std.specs.List.{AllByRecursion};
@@ -12,8 +9,7 @@ ghost use Rattle.daachorse_charwise.specs.Frequencies.{AreFrequencies, HasCounte
 use daachorse_core::errors::Result;
 use std::alloc::Allocator;
 
-/// By code point how often each character occurs in the patterns, up to the greatest that does. A
-/// count stays where it can grow no further.
+/// How often each character occurs in the patterns, by code point. Counts saturate.
 pub(crate) fn frequencies<V: Copy, A: Allocator>(
     alloc: A,
     patterns: &[(&str, V)],
@@ -29,7 +25,6 @@ pub(crate) fn frequencies<V: Copy, A: Allocator>(
     Ok(freqs)
 }
 
-/// Counts the characters of a text.
 fn count_chars<A: Allocator>(freqs: &mut Vec<u32, A>, text: &str) -> Result<()>
     requires { length freqs.old.items ≤ 1114112 }
     ensures ok { OnOk result (HasCounted freqs.old.items (chars text.now) freqs.new.items) }

@@ -1,18 +1,11 @@
-//! The searches of the automaton over characters: those of the engine, over its states, which read
-//! their characters as they are or folded, as the automaton's option says.
-//!
-//! The layers above may rely on the list of the matches that are left of a search in a text, which
-//! each call takes the first off; on a search in a source giving a match before it takes a byte
-//! past the match's end; on a stepper telling the matches that end with the characters consumed;
-//! and on the bounds of the turns taken so far. Places count bytes. They borrow the automaton, and
-//! the text if there is one; none of them takes memory. The patterns of an automaton are given in
-//! the order of the listing, each in memory of its own.
+//! The iterators and steppers of the automaton over characters.
 
 pub mod accelerated;
 mod patterns;
 
 pub use crate::charwise::iter::patterns::PatternIterator;
 use crate::charwise::states::{Leftmost, Standard};
+use daachorse_prefilter::skipping::Skipping;
 use daachorse_search::ending_here::EndingHere;
 use daachorse_search::find::FindWalk;
 use daachorse_search::leftmost::LeftmostMatches;
@@ -20,19 +13,11 @@ use daachorse_search::matches::Matches;
 use daachorse_search::matches_from::MatchesFrom;
 use daachorse_search::overlapping::{NoSuffixWalk, OverlappingWalk};
 use daachorse_search::{find_stepper, overlapping_stepper};
-use daachorse_prefilter::skipping::Skipping;
 pub use daachorse_text::decoding::{CharWithEndOffsetIterator, Decoded};
 use daachorse_text::text::Text;
 use std::alloc::Global;
 
-/// An iterator over non-overlapping matches in a text, each of which ends as early as possible.
-///
-/// Of the matches that end together it gives the longest. With an empty pattern there is one empty
-/// match at each boundary.
-///
-/// The automaton's `find_iter` makes it. It takes no memory, and at most two turns, which are looks
-/// at one state, for each character that it passed, and none with an empty pattern: `turns_are_bounded`
-/// promises it.
+/// The iterator of `find_iter`: non-overlapping matches in a text, by earliest end.
 pub type FindSliceIterator<'a, V, A = Global> = Matches<
     V,
     FindWalk<V, Standard<'a, V>>,
@@ -40,22 +25,10 @@ pub type FindSliceIterator<'a, V, A = Global> = Matches<
     Skipping<'a, A>,
 >;
 
-/// An iterator over non-overlapping matches in the text whose bytes a source yields.
-///
-/// It takes no byte past the end of the match that it returns.
-///
-/// The automaton's `find_iter_from_iter` makes it. It takes no memory, and at most two turns, which
-/// are looks at one state, for each character that it passed, and none with an empty pattern:
-/// `turns_are_bounded` promises it.
+/// The iterator of `find_iter_from_iter`: non-overlapping matches in the text of a source.
 pub type FindIterator<'a, P, V> = MatchesFrom<V, FindWalk<V, Standard<'a, V>>, Decoded<P>>;
 
-/// An iterator over all matches in a text, by rising ends.
-///
-/// Of the matches that end together the longest comes first.
-///
-/// The automaton's `find_overlapping_iter` makes it. It takes no memory, and at most two turns,
-/// which are looks at one state, for each character that it passed: `turns_are_bounded` promises
-/// it.
+/// The iterator of `find_overlapping_iter`: all matches in a text, by rising ends.
 pub type FindOverlappingSliceIterator<'a, V, A = Global> = Matches<
     V,
     OverlappingWalk<V, Standard<'a, V>>,
@@ -63,26 +36,14 @@ pub type FindOverlappingSliceIterator<'a, V, A = Global> = Matches<
     Skipping<'a, A>,
 >;
 
-/// An iterator over all matches in the text whose bytes a source yields.
-///
-/// It takes no byte past the end of the match that it returns.
-///
-/// The automaton's `find_overlapping_iter_from_iter` makes it. It takes no memory, and at most two
-/// turns, which are looks at one state, for each character that it passed: `turns_are_bounded`
-/// promises it.
+/// The iterator of `find_overlapping_iter_from_iter`: all matches in the text of a source.
 pub type FindOverlappingIterator<'a, P, V> = MatchesFrom<
     V,
     OverlappingWalk<V, Standard<'a, V>>,
     Decoded<P>,
 >;
 
-/// An iterator over the longest match at each end in a text.
-///
-/// Of equal patterns it gives the one that was registered first.
-///
-/// The automaton's `find_overlapping_no_suffix_iter` makes it. It takes no memory, and at most two
-/// turns, which are looks at one state, for each character that it passed: `turns_are_bounded`
-/// promises it.
+/// The iterator of `find_overlapping_no_suffix_iter`: the longest match at each end in a text.
 pub type FindOverlappingNoSuffixSliceIterator<'a, V, A = Global> = Matches<
     V,
     NoSuffixWalk<V, Standard<'a, V>>,
@@ -90,27 +51,14 @@ pub type FindOverlappingNoSuffixSliceIterator<'a, V, A = Global> = Matches<
     Skipping<'a, A>,
 >;
 
-/// An iterator over the longest match at each end in the text whose bytes a source yields.
-///
-/// It takes no byte past the end of the match that it returns.
-///
-/// The automaton's `find_overlapping_no_suffix_iter_from_iter` makes it. It takes no memory, and at
-/// most two turns, which are looks at one state, for each character that it passed:
-/// `turns_are_bounded` promises it.
+/// The iterator of `find_overlapping_no_suffix_iter_from_iter`: the longest match at each end.
 pub type FindOverlappingNoSuffixIterator<'a, P, V> = MatchesFrom<
     V,
     NoSuffixWalk<V, Standard<'a, V>>,
     Decoded<P>,
 >;
 
-/// An iterator over non-overlapping matches in a text, each of which starts as early as possible.
-///
-/// At a start it gives the longest pattern that the automaton holds.
-///
-/// The automaton's `leftmost_find_iter` makes it. It takes no memory. After `g` matches it has
-/// taken at most two turns, which are looks at one state, for each character that it passed, and
-/// four times the characters of the longest pattern for each match: `turns_are_bounded` promises
-/// it.
+/// The iterator of `leftmost_find_iter`: non-overlapping matches in a text, by earliest start.
 pub type LeftmostFindIterator<'a, V, A = Global> = LeftmostMatches<
     V,
     Leftmost<'a, V>,
@@ -119,25 +67,15 @@ pub type LeftmostFindIterator<'a, V, A = Global> = LeftmostMatches<
 >;
 
 /// A search for non-overlapping matches that is given one character at a time.
-///
-/// The automaton's `find_stepper` makes it. It takes no memory, and at most two turns, which are
-/// looks at one state, for each character that it passed, and none with an empty pattern:
-/// `turns_are_bounded` promises it.
 pub type FindStepper<'a, V> = find_stepper::FindStepper<'a, V, Standard<'a, V>>;
 
 /// A search for all matches that is given one character at a time.
-///
-/// The automaton's `find_overlapping_stepper` makes it. It takes no memory, and at most two turns,
-/// which are looks at one state, for each character that it passed: `turns_are_bounded` promises
-/// it.
 pub type FindOverlappingStepper<'a, V> = overlapping_stepper::FindOverlappingStepper<
     'a,
     V,
     Standard<'a, V>,
 >;
 
-/// An iterator over the matches that end with the characters that a stepper consumed, the longest
-/// first. It keeps its place while the stepper goes on.
-///
-/// The stepper's `matches` makes it. It takes no memory, and each match takes one output.
+/// The iterator of the stepper's `matches`: those that end with the characters consumed, the
+/// longest first. It keeps its place while the stepper goes on.
 pub type FindOverlappingStepperIterator<'a, V> = EndingHere<V, Standard<'a, V>>;

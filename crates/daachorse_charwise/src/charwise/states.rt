@@ -1,7 +1,4 @@
-//! The states of the automaton over characters, which stand in a crate of their own.
-//!
-//! The layers above may rely on what `daachorse_charwise_states` says of them: valid parts, and a
-//! look at one state alone, by which searches learn where to go.
+//! The states of the automaton over characters, which have a crate of their own.
 
 pub use daachorse_charwise_states::for_rows::{LeftmostForRows, StandardForRows};
 pub use daachorse_charwise_states::state::State;

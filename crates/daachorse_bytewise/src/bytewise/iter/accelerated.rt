@@ -1,9 +1,7 @@
-//! The searches over an automaton with rows: those of the automaton, over the rows of its
-//! states.
-//!
-//! The layers above may rely on all that the searches of the same names over the automaton promise.
+//! The iterators and steppers of the automaton over bytes, over rows.
 
 use crate::bytewise::states::{Leftmost, Standard};
+use daachorse_prefilter::skipping::Skipping;
 use daachorse_rows::view::RowView;
 use daachorse_search::ending_here::EndingHere;
 use daachorse_search::find::FindWalk;
@@ -12,10 +10,9 @@ use daachorse_search::matches::Matches;
 use daachorse_search::matches_from::MatchesFrom;
 use daachorse_search::overlapping::{NoSuffixWalk, OverlappingWalk};
 use daachorse_search::{find_stepper, haystack, overlapping_stepper, source};
-use daachorse_prefilter::skipping::Skipping;
 use std::alloc::Global;
 
-/// An iterator over non-overlapping matches in a slice, each of which ends as early as possible.
+/// As [`super::FindSliceIterator`], over rows.
 pub type FindSliceIterator<'a, V, A = Global> = Matches<
     V,
     FindWalk<V, RowView<'a, V, Standard<'a, V>>>,
@@ -23,14 +20,14 @@ pub type FindSliceIterator<'a, V, A = Global> = Matches<
     Skipping<'a, A>,
 >;
 
-/// An iterator over non-overlapping matches in the bytes that a source yields.
+/// As [`super::FindIterator`], over rows.
 pub type FindIterator<'a, P, V> = MatchesFrom<
     V,
     FindWalk<V, RowView<'a, V, Standard<'a, V>>>,
     source::Bytes<P>,
 >;
 
-/// An iterator over all matches in a slice, by rising ends.
+/// As [`super::FindOverlappingSliceIterator`], over rows.
 pub type FindOverlappingSliceIterator<'a, V, A = Global> = Matches<
     V,
     OverlappingWalk<V, RowView<'a, V, Standard<'a, V>>>,
@@ -38,14 +35,14 @@ pub type FindOverlappingSliceIterator<'a, V, A = Global> = Matches<
     Skipping<'a, A>,
 >;
 
-/// An iterator over all matches in the bytes that a source yields.
+/// As [`super::FindOverlappingIterator`], over rows.
 pub type FindOverlappingIterator<'a, P, V> = MatchesFrom<
     V,
     OverlappingWalk<V, RowView<'a, V, Standard<'a, V>>>,
     source::Bytes<P>,
 >;
 
-/// An iterator over the longest match at each end in a slice.
+/// As [`super::FindOverlappingNoSuffixSliceIterator`], over rows.
 pub type FindOverlappingNoSuffixSliceIterator<'a, V, A = Global> = Matches<
     V,
     NoSuffixWalk<V, RowView<'a, V, Standard<'a, V>>>,
@@ -53,14 +50,14 @@ pub type FindOverlappingNoSuffixSliceIterator<'a, V, A = Global> = Matches<
     Skipping<'a, A>,
 >;
 
-/// An iterator over the longest match at each end in the bytes that a source yields.
+/// As [`super::FindOverlappingNoSuffixIterator`], over rows.
 pub type FindOverlappingNoSuffixIterator<'a, P, V> = MatchesFrom<
     V,
     NoSuffixWalk<V, RowView<'a, V, Standard<'a, V>>>,
     source::Bytes<P>,
 >;
 
-/// An iterator over non-overlapping matches in a slice, each of which starts as early as possible.
+/// As [`super::LeftmostFindIterator`], over rows.
 pub type LeftmostFindIterator<'a, V, A = Global> = LeftmostMatches<
     V,
     RowView<'a, V, Leftmost<'a, V>>,
@@ -68,16 +65,15 @@ pub type LeftmostFindIterator<'a, V, A = Global> = LeftmostMatches<
     Skipping<'a, A>,
 >;
 
-/// A search for non-overlapping matches that is given one byte at a time. It tells no depths.
+/// As [`super::FindStepper`], over rows and without depths.
 pub type FindStepper<'a, V> = find_stepper::FindStepper<'a, V, RowView<'a, V, Standard<'a, V>>>;
 
-/// A search for all matches that is given one byte at a time. It tells no depths.
+/// As [`super::FindOverlappingStepper`], over rows and without depths.
 pub type FindOverlappingStepper<'a, V> = overlapping_stepper::FindOverlappingStepper<
     'a,
     V,
     RowView<'a, V, Standard<'a, V>>,
 >;
 
-/// An iterator over the matches that end with the bytes that a stepper consumed, the longest first.
-/// It keeps its place while the stepper goes on.
+/// As [`super::FindOverlappingStepperIterator`], over rows.
 pub type FindOverlappingStepperIterator<'a, V> = EndingHere<V, RowView<'a, V, Standard<'a, V>>>;

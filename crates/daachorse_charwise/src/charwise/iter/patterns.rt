@@ -1,18 +1,13 @@
 //! The patterns of an automaton over characters, one by one.
 
+use daachorse_array::patterns::PatternWalk;
 use daachorse_charwise_states::edges::Elements;
 use daachorse_core::errors::Result;
-use daachorse_array::patterns::PatternWalk;
 use std::alloc::{Allocator, Global};
 use std::marker::Model;
 
-/// An iterator over all patterns that an automaton holds, each with its value.
-///
-/// They come in byte order, which is the order of their characters, and equal ones in order of
-/// registration. Each pattern is a string in memory of its own. Where an allocation fails there is
-/// one error, and then the end.
-///
-/// The automaton's `iter` makes it. `daachorse_tests` compares whole listings.
+/// The iterator of `iter`: the patterns with their values, in byte order, each a string of its own.
+/// After an allocation fails there is one error, and then the end.
 #[derive(Drop)]
 pub struct PatternIterator<'a, V: Copy, A: Allocator = Global> {
     pub(crate) walk: PatternWalk<V, Elements<'a, V, A>, A>,

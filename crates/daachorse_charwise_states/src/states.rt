@@ -22,12 +22,11 @@ ghost use Rattle.daachorse_charwise_states.specs.Valid.{IsValid};
 mod form;
 
 use crate::edges::Elements;
-use crate::mapper::CodeMapper;
+use crate::mapper::{CodeMapper, CodeMapper};
 use crate::packing::pack;
 use crate::state::State;
 use crate::view::{Leftmost, Standard, View};
 use daachorse_build::nfa_builder::NfaBuilder;
-use daachorse_charwise_states::mapper::CodeMapper;
 use daachorse_core::errors::Result;
 use daachorse_core::{MatchKind, Output};
 use daachorse_placement::build_helper::Profile;

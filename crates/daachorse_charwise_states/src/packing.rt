@@ -20,7 +20,7 @@ ghost use Rattle.daachorse_charwise_states.specs.Elements.{base_in, check_in, fa
 ghost use Rattle.daachorse_charwise_states.specs.Packing.{AreEdgesCoded, ArePackedOf, HoldElements, code_in};
 ghost use Rattle.daachorse_charwise_states.specs.Writing.{AreGroupsApart, HasWritten, HaveCheck, HaveChecks};
 
-use crate::mapper::{CodeMapper, CodeMapper};
+use crate::mapper::CodeMapper;
 use crate::state::State;
 use daachorse_build::nfa_builder::{EdgeLabel, NfaBuilder, NfaBuilderState};
 use daachorse_core::DEAD_STATE_IDX;

@@ -22,7 +22,7 @@ ghost use Rattle.daachorse_charwise_states.specs.Valid.{IsValid};
 mod form;
 
 use crate::edges::Elements;
-use crate::mapper::{CodeMapper, CodeMapper};
+use crate::mapper::CodeMapper;
 use crate::packing::pack;
 use crate::state::State;
 use crate::view::{Leftmost, Standard, View};

@@ -11,7 +11,7 @@ ghost use Rattle.daachorse_charwise_states.specs.Grouped.{AreBases, HasBlocks, I
 ghost use Rattle.daachorse_charwise_states.specs.Valid.{IsValid};
 
 use crate::edges::Elements;
-use crate::mapper::{CodeMapper, CodeMapper};
+use crate::mapper::CodeMapper;
 use crate::state::State;
 use daachorse_checker::checker::is_sound;
 use daachorse_core::errors::Result;

@@ -7,7 +7,7 @@ ghost use Rattle.std.specs.Prelude.{◌≡◌, ◌<◌, ℕ, Some};
 ghost use Rattle.daachorse_charwise_states.specs.Parts.{char_code};
 ghost use Rattle.daachorse_charwise_states.specs.Views.{IsFor, parts_of};
 
-use crate::mapper::{CodeMapper, CodeMapper, code_in, code_in};
+use crate::mapper::{CodeMapper, code_in};
 use crate::state::State;
 use daachorse_core::turns::{Look, Turns};
 use daachorse_core::{DEAD_STATE_IDX, MatchKind, Output, ROOT_STATE_IDX};

@@ -1,26 +1,25 @@
 //! An array whose elements have children, failure links and outputs.
 //!
-//! The layers above give this of their arrays, whoever wrote them, and all else here is proved of
-//! any. All that they have to know first is that bases are in range. The own outputs of an element
-//! end where the outputs of its link begin.
+//! It may be an automaton's or untrusted. An element's own outputs end where those of its failure
+//! link begin.
 
 ghost use Rattle.std.specs.Prelude.{◌≡◌, ◌<◌, ◌≤◌, ◌^◌, ℕ, List, Option, IfSome};
 ghost use Rattle.daachorse_array.specs.Listing.{has_own, own_end, unit_of};
 
 use daachorse_core::{DEAD_STATE_IDX, ROOT_STATE_IDX};
 
-/// Elements with children, failure links and first outputs, and with units that bytes spell.
+/// Elements with children, failure links and first outputs. Bytes spell each unit.
 ///
-/// The children of one element are a group, which has a number, and an element tells its group and
-/// the unit that leads to it.
+/// The children of an element are a group, which has a number. Each element knows the group that it
+/// is in and the unit that leads to it.
 pub trait Array {
-    /// How many elements there are.
+    /// The number of elements.
     ghost count: { Self → ℕ };
 
-    /// A bound of the units.
+    /// Every unit is below this.
     ghost units: { Self → ℕ };
 
-    /// What a unit leads to from an element.
+    /// The child of an element by a unit.
     ghost child: { Self → ℕ → ℕ → Option ℕ };
 
     /// The group of an element's children.
@@ -41,12 +40,12 @@ pub trait Array {
     /// The bytes of a unit.
     ghost bytes: { ℕ → List ℕ };
 
-    /// How many elements there are.
+    /// The number of elements.
     fn num_elements(&self) -> usize
         ensures all { result ≡ count self.now }
         ensures few { result < 2 ^ 32 };
 
-    /// The bound of the units.
+    /// Every unit is below this.
     fn num_units(&self) -> usize
         ensures bound { result ≡ units self.now }
         ensures few { result < 2 ^ 32 };
@@ -56,8 +55,8 @@ pub trait Array {
         requires { element < count self.now }
         ensures { result ≡ group self.now element };
 
-    /// The number of the group that an element is in, and the unit that leads to it; `None` where
-    /// it is no child.
+    /// The number of the group that an element is in, and the unit that leads to it; `None` if it
+    /// is no child.
     fn edge(&self, element: usize) -> Option<(usize, usize)>
         requires { element < count self.now }
         ensures edge { result ≡ edge self.now element }
@@ -69,8 +68,8 @@ pub trait Array {
         requires { element < count self.now }
         ensures { result ≡ fail self.now element };
 
-    /// The position of an element's first output; 0 if there is none. It may be asked of a number
-    /// past the last element too, which a link can be that was read.
+    /// The position of an element's first output; 0 if there is none. Any number may be asked for:
+    /// links of an untrusted array may be out of range.
     fn first(&self, element: usize) -> u32
         ensures { result ≡ first self.now element };
 
@@ -80,13 +79,13 @@ pub trait Array {
         ensures value { result ≡ width self.now unit }
         ensures short { result ≤ 4 };
 
-    /// Writes the bytes of the unit that leads to an element to a buffer, and returns them.
+    /// Writes the bytes of the unit that leads to an element into `buffer`, and returns them.
     fn spell<'b>(&self, element: usize, buffer: &'b mut [u8; 4]) -> &'b [u8]
         requires { element < count self.now }
         ensures { result.now ≡ bytes (unit_of (edge self.now element)) };
 }
 
-/// The position where an element's own outputs end; 0 is the end of all.
+/// The position of the first output after an element's own; 0 if there is none.
 pub fn own_end<E: Array>(elements: &E, element: usize) -> u32
     requires { element < E.count elements.now }
     ensures { result ≡ own_end (E.fail elements.now) (E.first elements.now) element }

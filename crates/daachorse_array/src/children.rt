@@ -10,11 +10,7 @@ use crate::siblings::Siblings;
 use daachorse_core::errors::Result;
 use std::alloc::Allocator;
 
-/// Puts the children of an element aside behind their depth, the one with the greatest unit first.
-///
-/// # Errors
-///
-/// An allocation failed. Without children there is none.
+/// Pushes the children of an element onto `aside`, each with `depth`, the greatest unit first.
 pub(crate) fn put_aside<E: Array, A: Allocator>(
     edges: &E,
     groups: &Siblings<A>,
@@ -44,7 +40,7 @@ pub(crate) fn put_aside<E: Array, A: Allocator>(
     Ok(())
 }
 
-/// The child of an element; `None` where it has none or several.
+/// The only child of an element; `None` if it has none or several.
 fn only_child<E: Array, A: Allocator>(
     edges: &E,
     groups: &Siblings<A>,
@@ -68,10 +64,6 @@ fn only_child<E: Array, A: Allocator>(
 }
 
 /// Lists the children of an element with their units, the least unit first.
-///
-/// # Errors
-///
-/// An allocation failed. Without children there is none.
 fn list_children<E: Array, A: Allocator>(
     edges: &E,
     groups: &Siblings<A>,

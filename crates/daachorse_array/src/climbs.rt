@@ -1,8 +1,8 @@
-//! The depths of the elements of an array that tell their parents.
+//! The depths of the elements of an array whose elements know their parents.
 //!
-//! The layers above may rely on the same table as that of [`crate::depths::depths`]. It is made without groups: from each
-//! element whose depth is not known a climb goes up to the first one whose depth is, and those that it passed are given
-//! theirs on the way back. So each element and its parent are looked at once, which mostly stand near each other.
+//! From each element of unknown depth a climb goes up to one of known depth, and the elements that
+//! it passed get their depths on the way back. No groups are needed, and an element and its parent
+//! mostly stand near each other.
 
 ghost use Rattle.std.specs.Prelude.{◌≡◌, ◌≢◌, ◌+◌, ◌<◌, ◌≤◌, ◌^◌, ℕ, Some, [], length, reverse, slice_index, vec_capacity, IfOk, IfErr, IfSome, MatchOption};
 ghost use Rattle.std.specs.List.{AllByRecursion};
@@ -19,15 +19,16 @@ use daachorse_core::ROOT_STATE_IDX;
 use daachorse_core::errors::Result;
 use std::alloc::Allocator;
 
-/// The depth of an element that no climb has come to yet, and that of the root.
+/// The depth of an element that no climb has reached, and of the root.
 const NOT_KNOWN: u32 = 0;
 
-/// Of each element how many units its text has; 4,294,967,295 of one that no text leads to. The number of an element is
-/// that of its children's group.
+/// The depth of each element, in units; 4,294,967,295 if no text leads to it.
+///
+/// # Conditions
+/// The group of an element's children has the element's number.
 ///
 /// # Errors
-///
-/// An allocation failed.
+/// Out of memory.
 pub fn depths_by_parents<E: Array, A: Allocator + Copy>(alloc: A, edges: &E) -> Result<Vec<u32, A>>
     requires tree { IsTree (E.child edges.now) (E.count edges.now) (E.units edges.now) }
     requires tell { TellChildren (E.child edges.now) (λ i. Some i) (E.edge edges.now) (E.count edges.now) }
@@ -46,8 +47,8 @@ pub fn depths_by_parents<E: Array, A: Allocator + Copy>(alloc: A, edges: &E) -> 
     Ok(depths)
 }
 
-/// Puts an element and those above it on the path, up to the first whose depth is known, and tells that depth; `None`
-/// where no text leads to them.
+/// Pushes an element and those above it onto the path, up to the first of known depth, and returns
+/// that depth; `None` if no text leads to them.
 #[inline(always)]
 fn climb<E: Array, A: Allocator>(
     edges: &E,
@@ -90,7 +91,8 @@ fn climb<E: Array, A: Allocator>(
     Some(NOT_KNOWN)
 }
 
-/// Gives the elements of the path their depths, the last one that which is one more than this, and empties it.
+/// Empties the path and sets the depths of its elements: `depth + 1` for the last one, and one more
+/// for each before it.
 #[inline(always)]
 fn descend<A: Allocator>(depth: u32, depths: &mut Vec<u32, A>, path: &mut Vec<u32, A>)
     requires inside { AllByRecursion (λ i. i < length depths.old.items) (reverse path.old.items) }

@@ -1,7 +1,4 @@
-//! The depths of the elements of an array with children.
-//!
-//! The layers above may rely on the whole table: of each element how many units lead to it. The
-//! elements are entered in the order in which they were reached, so that no children are sorted.
+//! The depths of an array's elements, found breadth first with no sorting of children.
 
 ghost use Rattle.std.specs.Prelude.{◌≡◌, ◌+◌, ◌<◌, ◌≤◌, ℕ, [], Some, length, slice_index, slice_index_or, vec_capacity, IfOk, IfErr};
 ghost use Rattle.daachorse_core.specs.Refusals.{IsOutOfMemory};
@@ -14,14 +11,13 @@ use crate::siblings::Siblings;
 use daachorse_core::errors::Result;
 use std::alloc::Allocator;
 
-/// The depth of an element that is not reached.
+/// The depth of an element that no text leads to.
 pub(crate) const NOT_REACHED: u32 = u32::MAX;
 
-/// Of each element how many units its text has; 4,294,967,295 of one that no text leads to.
+/// The depth of each element, in units; 4,294,967,295 if no text leads to it.
 ///
 /// # Errors
-///
-/// An allocation failed.
+/// Out of memory.
 pub fn depths<E: Array, A: Allocator + Copy>(alloc: A, edges: &E) -> Result<Vec<u32, A>>
     requires tree { IsTree (E.child edges.now) (E.count edges.now) (E.units edges.now) }
     requires tell { TellChildren (E.child edges.now) (E.group edges.now) (E.edge edges.now) (E.count edges.now) }
@@ -43,7 +39,7 @@ pub fn depths<E: Array, A: Allocator + Copy>(alloc: A, edges: &E) -> Result<Vec<
     Ok(depths)
 }
 
-/// Notes the depth of each child of an element, and that it is reached.
+/// Sets the depth of each child of an element, and appends it to `reached`.
 fn note_children<E: Array, A: Allocator>(
     edges: &E,
     groups: &Siblings<A>,

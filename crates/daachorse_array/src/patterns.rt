@@ -1,13 +1,8 @@
-//! The patterns of an array with outputs, one by one, in the order of their texts.
+//! The patterns of an array, one by one, in the order of their texts.
 //!
-//! The layers above may rely on a walk giving each pattern with each of its values, the values in
-//! order; and on one error, and then the end, where memory is refused.
-//!
-//! The text of an element begins with that of its parent, and so does each text from there to its
-//! own in their order. So a walk keeps one text, of which it writes the last unit of each element
-//! that it comes to. Its lists grow as they are needed: they hold little more than the children on
-//! the way to one element. An element without children has outputs, so that where memory is refused
-//! on the way to it, a pattern is left in whose place the error is given.
+//! The text of an element begins with that of its parent, so a walk keeps one text and changes only
+//! its end. Each way down ends at an element with outputs, so that the error of a failed allocation
+//! takes the place of a pattern.
 
 ghost use Rattle.std.specs.Prelude.{◌≡◌, ◌<◌, ◌≤◌, ◌+◌, ◌-◌, ◌++◌, ◌⊎◌, ◌≢◌, ℕ, List, [], ◌∷◌, Some, length, map, reverse, slice_get, slice_index_or, take, IfOk, IfErr, OnOk};
 ghost use Rattle.daachorse_core.specs.Refusals.{IsOutOfMemory};
@@ -24,18 +19,18 @@ use std::alloc::{Allocator, Global};
 use std::marker::{Model, PhantomData};
 use std::num::NonZeroU32;
 
-/// Elements with outputs whose texts are given as keys, in memory of an allocator.
+/// An array with outputs, whose texts are returned as keys.
 pub trait Keys<V: Copy, A: Allocator>: Array {
     /// A unit of a text.
     type Unit: Copy;
 
-    /// A text in memory of its own.
+    /// An owned text.
     type Key;
 
     /// The number of a unit.
     ghost number: { Self.Unit → ℕ };
 
-    /// The numbers of the units of a key.
+    /// The numbers of a key's units.
     ghost units_of: { Self.Key → List ℕ };
 
     /// All outputs.
@@ -55,26 +50,25 @@ pub trait Keys<V: Copy, A: Allocator>: Array {
     /// Makes the key of these units.
     ///
     /// # Errors
-    ///
-    /// An allocation failed.
+    /// Out of memory.
     fn key(&self, alloc: A, units: &[Self::Unit]) -> Result<Self::Key>
         ensures ok { IfOk result (λ key. units_of key ≡ map number units.now) }
         ensures err { IfErr result IsOutOfMemory };
 }
 
-/// The patterns of an array, one by one: in the order of their texts, and those of one text in the
-/// order of its values.
+/// An iterator over the patterns of an array, in the order of their texts, and of one text in the
+/// order of its values. If an allocation fails, it gives one error and ends.
 #[derive(Drop)]
 pub struct PatternWalk<V: Copy, E: Keys<V, A>, A: Allocator = Global> {
     elements: E,
     groups: Siblings<A>,
-    // The elements that were put aside, the next one last, each behind the length of its text.
+    // The elements that were put aside, each with the length of its text; the last is the next.
     aside: Vec<(u32, u32), A>,
     // Room for the children of one element.
     children: Vec<(u32, u32), A>,
-    // The text of the element that was taken last.
+    // The text of the current element.
     text: Vec<E::Unit, A>,
-    // What is left of its own outputs: those from a position until another.
+    // Its own outputs that are left: from `position` until `stop`.
     position: usize,
     stop: usize,
     values: PhantomData<V>,
@@ -100,8 +94,7 @@ impl<V: Copy, E: Keys<V, A> + Drop, A: Allocator + Copy> PatternWalk<V, E, A> {
     /// A walk over all patterns.
     ///
     /// # Errors
-    ///
-    /// An allocation failed.
+    /// Out of memory.
     pub fn new(alloc: A, elements: E) -> Result<Self>
         requires { HasPatterns (E.child elements) (E.group elements) (E.edge elements) (E.count elements) (E.units elements) (E.outputs elements) (E.first elements) (own_end (E.fail elements) (E.first elements)) }
         ensures ok { IfOk result (λ walk. IsPatterns (E.child elements) (E.count elements) (E.units elements) (E.outputs elements) (E.first elements) (own_end (E.fail elements) (E.first elements)) walk) }
@@ -124,7 +117,7 @@ impl<V: Copy, E: Keys<V, A> + Drop, A: Allocator + Copy> PatternWalk<V, E, A> {
 }
 
 impl<V: Copy, E: Keys<V, A>, A: Allocator> PatternWalk<V, E, A> {
-    /// Leaves out all patterns that were not given yet.
+    /// Skips all patterns that are left.
     pub fn end(&mut self)
         ensures { self.new ≡ [] }
     {
@@ -159,7 +152,7 @@ impl<V: Copy, E: Keys<V, A> + Drop, A: Allocator + Copy> Iterator for PatternWal
                 &mut self.aside,
             );
             if let Err(error) = entered {
-                // The two steps of `end`, which takes no walk that stopped on its way to an element.
+                // Not `self.end()`: after a failed `enter` the walk's invariant may not hold.
                 self.position = 0;
                 self.aside.clear();
                 return Some(Err(error));
@@ -183,11 +176,7 @@ impl<V: Copy, E: Keys<V, A> + Drop, A: Allocator + Copy> Iterator for PatternWal
     }
 }
 
-/// Writes the text of an element that has `depth` units, and puts its children aside.
-///
-/// # Errors
-///
-/// An allocation failed. For the root without children there is none.
+/// Sets the text to that of an element with `depth` units, and puts its children aside.
 fn enter<V: Copy, E: Keys<V, A>, A: Allocator>(
     elements: &E,
     groups: &Siblings<A>,
@@ -215,11 +204,7 @@ fn enter<V: Copy, E: Keys<V, A>, A: Allocator>(
     put_aside(elements, groups, element, depth + 1, children, aside)
 }
 
-/// Makes a text `depth` units long: all but the last stay, and the last is this one.
-///
-/// # Errors
-///
-/// An allocation failed. Without units there is none.
+/// Keeps the first `depth - 1` units of a text and appends `unit`; at depth 0 empties it.
 fn write_last<U: Copy, A: Allocator>(text: &mut Vec<U, A>, depth: usize, unit: U) -> Result<()>
     ensures none { OnOk result (depth ≡ 0 → text.new.items ≡ []) }
     ensures ok { OnOk result (0 < depth → text.new.items ≡ take (depth - 1) text.old.items ++ unit ∷ []) }
@@ -235,8 +220,7 @@ fn write_last<U: Copy, A: Allocator>(text: &mut Vec<U, A>, depth: usize, unit: U
     Ok(())
 }
 
-/// The position of an element's first output, and that where its own outputs end, which is read only
-/// where there is an output.
+/// The positions where an element's own outputs begin and end; both 0 if its chain is empty.
 fn own_outputs<E: Array>(elements: &E, element: usize) -> (usize, usize)
     requires { element < E.count elements.now }
     ensures first { result.0 ≡ E.first elements.now element }

@@ -1,7 +1,4 @@
-//! The elements of each group, linked from one to the next.
-//!
-//! The layers above may rely on [`Siblings::members`] giving each element of a group once. One pass
-//! over the elements makes all groups, in two numbers an element.
+//! The elements of each group, as linked lists in two numbers an element.
 
 ghost use Rattle.std.specs.Prelude.{◌≡◌, ◌<◌, ◌≤◌, ◌^◌, ℕ, [], length, slice_index_or, IfOk, IfErr};
 ghost use Rattle.daachorse_core.specs.Refusals.{IsOutOfMemory};
@@ -13,12 +10,12 @@ use daachorse_core::errors::Result;
 use std::alloc::{Allocator, Global};
 use std::marker::Model;
 
-/// The elements of each group. A link is the number of an element, counted from 1, or 0 for none.
+/// The elements of each group. A link is an element's number plus 1, or 0 for none.
 #[derive(Drop)]
 pub struct Siblings<A: Allocator = Global> {
-    // The first of each group.
+    // The first element of each group.
     first: Vec<u32, A>,
-    // Behind each element the next of its group.
+    // For each element the next of its group.
     next: Vec<u32, A>,
 }
 
@@ -34,11 +31,10 @@ impl<A: Allocator> Model for Siblings<A> {
 }
 
 impl<A: Allocator + Copy> Siblings<A> {
-    /// The groups of all elements, each element before those of its group with lesser numbers.
+    /// The groups of all elements, each in falling order of the elements' numbers.
     ///
     /// # Errors
-    ///
-    /// An allocation failed.
+    /// Out of memory.
     #[inline(always)]
     pub fn new<E: Array>(alloc: A, edges: &E) -> Result<Self>
         ensures ok { IfOk result (λ groups. (g : ℕ) → g < E.count edges.now
@@ -58,7 +54,7 @@ impl<A: Allocator + Copy> Siblings<A> {
 }
 
 impl<A: Allocator> Siblings<A> {
-    /// The elements of a group, the last first.
+    /// The elements of a group, the greatest number first.
     pub fn members(&self, group: usize) -> Members<'_>
         requires { group < length self.now }
         ensures { result ≡ slice_index_or self.entry.now group [] }
@@ -70,7 +66,7 @@ impl<A: Allocator> Siblings<A> {
     }
 }
 
-/// Puts an element before the others of its group. Answers the link to these, or 0 where it has no
+/// Puts an element before the others of its group, and returns the link to these; 0 if it has no
 /// group.
 fn put_first<E: Array, A: Allocator>(edges: &E, element: usize, first: &mut Vec<u32, A>) -> u32
     requires element { element < E.count edges.now }

@@ -1,13 +1,13 @@
 //! A trie with links that may be wrong, and their check.
 //!
-//! The links are followed as a build follows them, so long as that takes few steps: they lead to the places of short
-//! texts, which are together at the front. Some tries would take the square of their size so. Of these a tour tells,
-//! which takes more time a place, since it goes all over them, but no more steps than there are places and labels.
+//! The links are first followed as a build follows them, which is fast: they lead to short texts,
+//! whose places stand together at the front. Some tries would take quadratic time that way. Past a
+//! limit of steps a tour decides instead, in time linear in the places and the labels.
 //!
-//! The given links are a forest, wrong or not, once each leads to an earlier place. A tour goes
-//! through it: each place comes after its link, and the link of the next place is on the way back from
-//! the one before. At each place it keeps, of each label, the child by it of the nearest place on the way
-//! back. The link of a child is what is near above its parent.
+//! If each link leads to an earlier place, right or wrong, the links form a forest. The tour comes
+//! to each place after its link, and between places it only goes back along links. For each label
+//! it keeps the child by that label of the nearest place on the way back. This child is near, and
+//! is the right link of the next child by the label.
 
 ghost use Rattle.std.specs.Prelude.{◌≡◌, ℕ, ◌<◌, ◌≤◌, ◌^◌, length, cond, true, false, IfOk, IfErr};
 ghost use Rattle.daachorse_core.specs.Refusals.{IsOutOfMemory};
@@ -20,21 +20,21 @@ mod following;
 use daachorse_core::errors::Result;
 use std::alloc::{Allocator, Global};
 
-/// A trie whose places stand breadth first, the root at place 0, with links that may be wrong.
+/// A trie with its places in breadth-first order, the root at place 0. Its links may be wrong.
 #[derive(Drop)]
 pub struct Trie<A: Allocator = Global> {
-    /// The place of each place's parent; not read for the root.
+    /// The parent of each place; not read for the root.
     pub parents: Vec<u32, A>,
-    /// The label by which each place's parent leads to it; not read for the root.
+    /// The label that leads to each place from its parent; not read for the root.
     pub labels: Vec<u32, A>,
-    /// The place of each place's link, or the number of places for a dead link; not read for the root.
+    /// The link of each place, or the number of places for a dead link; not read for the root.
     pub fails: Vec<u32, A>,
     /// Whether each place ends a key.
     pub stops: Vec<bool, A>,
 }
 
 impl<A: Allocator + Copy> Trie<A> {
-    /// Whether each place but the root links to an earlier one.
+    /// Whether each link but the root's is dead or leads to an earlier place.
     fn links_fall(&self) -> bool
         requires few { length self.now.fails.items < 2 ^ 32 }
         ensures yes { result ≡ true → LinksFall self.now.fails.items }
@@ -65,7 +65,7 @@ impl<A: Allocator + Copy> Trie<A> {
         self.fails[p as usize]
     }
 
-    /// Where the children of each place begin, and those of the place before end.
+    /// Where children begin: those of place p are the places from entry p until entry p + 1.
     fn starts(&self, alloc: A) -> Result<Vec<u32, A>>
         requires order { IsOrder self.now.parents.items }
         requires few { length self.now.parents.items < 2 ^ 32 }
@@ -88,8 +88,8 @@ impl<A: Allocator + Copy> Trie<A> {
         Ok(starts)
     }
 
-    /// The places in an order in which each stands after its link, and its link is on the link path of the one before it:
-    /// of each place the next, and the first at the end.
+    /// For each place the next one in an order in which a place comes after its link, and its link
+    /// is on the link path of the place before it. The last entry is the first place.
     fn tour(&self, alloc: A) -> Result<Vec<u32, A>>
         requires few { length self.now.fails.items < 2 ^ 32 }
         requires fall { LinksFall self.now.fails.items }
@@ -108,7 +108,8 @@ impl<A: Allocator + Copy> Trie<A> {
         Ok(next)
     }
 
-    /// What a link is where nothing is near: the root, unless it stops; none on the tree of links of another place.
+    /// The link of a child for which nothing is near, in the tree of links below p: the root if p
+    /// is the root and does not stop, else dead.
     fn root_value(&self, p: u32) -> u32
         requires few { length self.now.fails.items < 2 ^ 32 }
         requires some { 0 < length self.now.stops.items }
@@ -122,7 +123,8 @@ impl<A: Allocator + Copy> Trie<A> {
         self.fails.len() as u32
     }
 
-    /// The link of place m, where `found` is near above its parent, or `other` is right.
+    /// The right link of place m. `found` is what is near above its parent, 0 for nothing; `other`
+    /// is the link in that case.
     fn right_link(&self, m: u32, found: u32, other: u32) -> u32
         requires few { length self.now.fails.items < 2 ^ 32 }
         requires within { m < length self.now.stops.items }
@@ -137,7 +139,8 @@ impl<A: Allocator + Copy> Trie<A> {
         found
     }
 
-    /// Comes to place p from its link: whether the children of p have the right links. They are near then, and what was is saved.
+    /// Goes from place p's link to p, and returns whether the links of p's children are right. If
+    /// so, the children are near, and what was near is saved.
     fn enter(
         &self,
         starts: &[u32],
@@ -223,7 +226,7 @@ impl<A: Allocator + Copy> Trie<A> {
         }
     }
 
-    /// Whether each place has the right leftmost link.
+    /// Whether each place has the right leftmost link. Every label is below `alphabet`.
     pub fn has_links(&self, alloc: A, alphabet: u32) -> Result<bool>
         requires stops { length self.now.stops.items ≡ length self.now.parents.items }
         requires trie { IsTrieOfPlaces self.now.parents.items self.now.labels.items alphabet }

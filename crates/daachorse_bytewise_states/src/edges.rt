@@ -1,7 +1,4 @@
-//! The elements and their children, as a listing goes over them, and the check of parts that were read.
-//!
-//! The layers above may rely on the table of the depths, which [`States::depths`] makes, and on [`Elements`] looking
-//! at any elements, valid or not, in whole blocks and with bases that are elements.
+//! The elements and their children, for listings and for the check of parts that were read.
 
 ghost use Rattle.std.specs.Prelude.{◌≡◌, ◌<◌, ◌≤◌, ◌-◌, bit_xor, Some, length, slice_get, slice_index_or, IfOk, IfErr};
 ghost use Rattle.daachorse_core.specs.Outputs.{number};
@@ -25,9 +22,9 @@ use std::alloc::Allocator;
 use std::marker::{Model, PhantomData};
 use std::num::NonZeroU32;
 
-/// Elements that may be looked at. They may be those of an automaton or any others.
+/// Elements of an automaton, or untrusted ones in whole blocks and with bases in range.
 ///
-/// Where `K` names the searches, no look asks for the kind, which would stand in the way from one element to the next.
+/// If `K` names the searches, no access tests the kind, which would delay the next one.
 #[derive(Drop)]
 pub struct Elements<'a, V: Copy, K: ForKinds = ByKind> {
     pub(crate) kind: MatchKind,
@@ -75,7 +72,7 @@ impl<'a, V: Copy, K: ForKinds> Elements<'a, V, K> {
         }
     }
 
-    /// The base of an element, which is an element.
+    /// The base of an element.
     #[inline(always)]
     pub(crate) fn base_at(&self, element: usize) -> Option<NonZeroU32>
         requires { element < count self.now }
@@ -89,7 +86,7 @@ impl<'a, V: Copy, K: ForKinds> Elements<'a, V, K> {
         }
     }
 
-    /// The check of an element. In whole blocks it leads from an element to an element.
+    /// The check of an element.
     #[inline(always)]
     pub(crate) fn check_at(&self, element: usize) -> u8
         requires { element < count self.now }
@@ -104,8 +101,7 @@ impl<'a, V: Copy, K: ForKinds> Elements<'a, V, K> {
     }
 }
 
-/// The elements of a group are those that the bytes lead to from one base. A unit is a byte, which
-/// spells itself.
+/// The elements of a group are those that the bytes lead to from one base. A unit is a byte.
 impl<'a, V: Copy, K: ForKinds> Array for Elements<'a, V, K> {
     ghost use Rattle.std.specs.Prelude.{[], ◌∷◌};
     ghost use Rattle.daachorse_model.specs.Units.{byte_width};
@@ -210,12 +206,10 @@ impl<'a, V: Copy, A: Allocator, K: ForKinds> Keys<V, A> for Elements<'a, V, K> {
 }
 
 impl<V: Copy, A: Allocator + Copy> States<V, A> {
-    /// Of each element how many bytes lead to it from the root; 4,294,967,295 of one that no text
-    /// leads to.
+    /// The depth of each element, in bytes; 4,294,967,295 if no text leads to it.
     ///
     /// # Errors
-    ///
-    /// An allocation failed.
+    /// Out of memory.
     pub fn depths(&self, alloc: A) -> Result<Vec<u32, A>>
         ensures ok { IfOk result (λ v. IsDepthTable (child self.now) 256 (count self.now) v.items) }
         ensures err { IfErr result IsOutOfMemory }
@@ -227,11 +221,7 @@ impl<V: Copy, A: Allocator + Copy> States<V, A> {
         }
     }
 
-    /// The same depths, by elements whose list the type tells.
-    ///
-    /// # Errors
-    ///
-    /// An allocation failed.
+    /// [`Self::depths`], with the list of elements known at compile time.
     fn depths_in<K: ForKinds>(&self, alloc: A) -> Result<Vec<u32, A>>
         requires { K.fits self.now.kind }
         ensures ok { IfOk result (λ v. IsDepthTable (child self.now) 256 (count self.now) v.items) }
@@ -242,7 +232,7 @@ impl<V: Copy, A: Allocator + Copy> States<V, A> {
     }
 }
 
-/// The position of an element's first output; 0 if it has none, and past the last.
+/// The position of an element's first output; 0 if it has none or there is no such element.
 #[inline(always)]
 fn output_at<F: Copy>(states: &[State<F>], element: usize) -> u32
     ensures { (default : State F) → output_in default ≡ 0 → result ≡ output_in (slice_index_or states.now element default) }

@@ -1,6 +1,4 @@
-//! Whether a filter passes at each key of the automaton.
-//!
-//! The layers above may rely on the answer being right of any filter.
+//! Whether a prefilter passes at each key of the automaton.
 
 ghost use Rattle.std.specs.Prelude.{◌≡◌, true, false, IfOk, IfErr};
 ghost use Rattle.daachorse_core.specs.Refusals.{IsOutOfMemory};
@@ -14,11 +12,10 @@ use daachorse_prefilter::prefilter::Prefilter;
 use std::alloc::Allocator;
 
 impl<V: Copy, A: Allocator + Copy> States<V, A> {
-    /// Whether a filter, if there is one, passes at the beginning of each pattern.
+    /// Whether the prefilter, if there is one, passes at the beginning of each pattern.
     ///
     /// # Errors
-    ///
-    /// An allocation failed.
+    /// Out of memory.
     pub fn passes(&self, alloc: A, filter: &Option<Prefilter<A>>) -> Result<bool>
         ensures yes { IfOk result (λ passes. passes ≡ true → PassesKeys (λ w. w) (content self.now) filter.now) }
         ensures no { IfOk result (λ passes. passes ≡ false → PassesKeys (λ w. w) (content self.now) filter.now → ⊥) }

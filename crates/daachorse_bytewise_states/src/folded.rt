@@ -1,6 +1,4 @@
 //! Whether the keys of the automaton are folded.
-//!
-//! The layers above may rely on the answer being right of any states.
 
 ghost use Rattle.std.specs.Prelude.{◌≡◌, true, false, IfOk, IfErr};
 ghost use Rattle.daachorse_core.specs.Refusals.{IsOutOfMemory};
@@ -13,12 +11,11 @@ use daachorse_core::errors::Result;
 use std::alloc::Allocator;
 
 impl<V: Copy, A: Allocator + Copy> States<V, A> {
-    /// Whether the states can be those of an automaton with this option: where it finds ASCII
-    /// letters without regard to case, no key has a capital one.
+    /// Whether the states fit this option: if ASCII case is ignored, no key has an ASCII capital
+    /// letter.
     ///
     /// # Errors
-    ///
-    /// An allocation failed.
+    /// Out of memory.
     pub fn may_fold(&self, alloc: A, folds: bool) -> Result<bool>
         ensures yes { IfOk result (λ may. may ≡ true → folds ≡ true → HasFoldedKeys (content self.now)) }
         ensures no { IfOk result (λ may. may ≡ false → (folds ≡ true → HasFoldedKeys (content self.now)) → ⊥) }

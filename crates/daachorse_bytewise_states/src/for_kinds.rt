@@ -1,7 +1,4 @@
-//! In which of its two lists an automaton keeps its elements, and when that is known.
-//!
-//! A standard automaton has its elements in one list and a leftmost one in the other. The layers above may rely on
-//! the answer being right of each kind that fits.
+//! The two lists of elements, one for standard searches and one for leftmost searches.
 
 ghost use Rattle.std.specs.Prelude.{◌≡◌, true, false};
 ghost use Rattle.daachorse_model.specs.declared.MatchKind.{MatchKind};
@@ -10,20 +7,19 @@ ghost use Rattle.daachorse_model.specs.Kinds.{is_leftmost};
 use daachorse_core::MatchKind;
 use daachorse_search::view::{ForLeftmost, ForStandard};
 
-/// How elements tell which list they stand in.
-///
-/// A type that names the searches knows the list when it is compiled, so that no look at an element asks for the kind.
+/// How an access finds the list of the elements. A type that names the searches knows the list at
+/// compile time, so that no access tests the kind.
 pub trait ForKinds: Drop {
-    /// The kinds of automata whose elements may be looked at so.
+    /// The kinds of automata that it serves.
     ghost fits: { MatchKind → Type 0 };
 
-    /// Whether the elements stand in the list for the leftmost searches.
+    /// Whether the elements stand in the list for leftmost searches.
     fn is_leftmost(kind: MatchKind) -> bool
         requires { fits kind }
         ensures { result ≡ is_leftmost kind };
 }
 
-/// The elements stand in the list for the standard searches.
+/// The list for standard searches.
 impl ForKinds for ForStandard {
     ghost fits = { λ kind. is_leftmost kind ≡ false };
 
@@ -33,7 +29,7 @@ impl ForKinds for ForStandard {
     }
 }
 
-/// The elements stand in the list for the leftmost searches.
+/// The list for leftmost searches.
 impl ForKinds for ForLeftmost {
     ghost fits = { λ kind. is_leftmost kind ≡ true };
 
@@ -43,7 +39,7 @@ impl ForKinds for ForLeftmost {
     }
 }
 
-/// The kind tells the list, at each look at an element. It serves where the elements are looked at once or a few times.
+/// The list is chosen by the kind at each access, for code that reads few elements.
 #[derive(Clone, Copy, Debug)]
 pub struct ByKind;
 

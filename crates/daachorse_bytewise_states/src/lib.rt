@@ -1,7 +1,6 @@
 //! The states of the automaton over bytes, in a double array.
 //!
-//! The layers above may rely on [`states::States`] holding just the dictionary that it was built
-//! for, and on what a search sees of it: [`view::View`].
+//! [`states::States`] holds a dictionary, and [`view::View`] is what a search sees of it.
 #![tactic(auto)]
 
 pub mod edges;

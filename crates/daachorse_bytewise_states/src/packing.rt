@@ -1,7 +1,4 @@
 //! A trie written into the elements of a double array.
-//!
-//! The layers above may rely on each state standing at the index that the placement gave it, with
-//! its base, its link and its outputs, and on no vacant element being anybody's child.
 
 ghost use Rattle.std.specs.Prelude.{◌≡◌, ◌≢◌, ◌+◌, ◌<◌, ◌≤◌, ◌^◌, ◌*◌, ℕ, length, slice_index, IfOk, IfErr, OnOk, Some};
 ghost use Rattle.std.specs.Ordering.{nat_cmp};
@@ -27,16 +24,15 @@ use daachorse_placement::build_helper::{BuildHelper, Profile, SiblingGroup};
 use std::alloc::Allocator;
 use std::num::NonZeroU32;
 
-/// The length of a block: each byte leads to an element of the parent's block.
+/// The length of a block: all bytes lead from one base into one block.
 pub(crate) const BLOCK_LEN: u32 = 256;
 
-/// The elements that hold the trie of a builder, whose links and outputs are built. What the
-/// profile counted decides which groups of siblings are placed first.
+/// The elements that hold a builder's trie, whose links and outputs are built. The groups of
+/// siblings that the profile counted most are placed first.
 ///
 /// # Errors
-///
-/// [`Limit::NumElements`](daachorse_core::errors::Limit::NumElements) where the groups of siblings
-/// need too many blocks, and out of memory.
+/// [`Limit::NumElements`](daachorse_core::errors::Limit::NumElements) if the groups need too many
+/// blocks, or out of memory.
 pub(crate) fn pack<V: Copy, A: Allocator + Copy>(
     alloc: A,
     nfa: &NfaBuilder<u8, V, A>,
@@ -105,7 +101,7 @@ fn write_states<V: Copy, A: Allocator + Copy>(
     Ok(elements)
 }
 
-/// By state the byte that leads to it, 0 for the root.
+/// The byte that leads to each state, 0 for the root.
 fn labels<V: Copy, A: Allocator + Copy>(
     alloc: A,
     states: &[NfaBuilderState<u8, V, A>],
@@ -131,7 +127,7 @@ fn label_states<V: Copy, A: Allocator>(labels: &mut [u8], states: &[NfaBuilderSt
     }
 }
 
-/// Sets the labels of the children that these edges lead to.
+/// Sets the label of each child that the edges lead to.
 fn label_children<A: Allocator>(labels: &mut [u8], edges: &EdgeMap<u8, A>)
     requires inside { (c t : ℕ) → id_at nat_cmp edges.now c ≡ Some t → t < length labels.old }
     requires apart { (c d t : ℕ) → id_at nat_cmp edges.now c ≡ Some t → id_at nat_cmp edges.now d ≡ Some t → c ≡ d }
@@ -144,9 +140,9 @@ fn label_children<A: Allocator>(labels: &mut [u8], edges: &EdgeMap<u8, A>)
     }
 }
 
-/// The elements of a placement before the states are written: all are vacant. The check of each is
-/// what leads to it from the least unused base of its block; a block without one has no element
-/// that stays vacant.
+/// The elements of a placement while all are vacant. The check of each is what leads to it from the
+/// least unused base of its block, so that it is nobody's child. A block without an unused base
+/// keeps no vacant element.
 fn vacant_elements<A: Allocator + Copy>(
     alloc: A,
     helper: &BuildHelper<A>,

@@ -1,6 +1,4 @@
 //! The patterns of an automaton over bytes, one by one.
-//!
-//! The layers above may rely on [`States::pattern_iter`] giving the listing of the dictionary.
 
 ghost use Rattle.std.specs.Prelude.{◌≡◌, IfOk, IfErr};
 ghost use Rattle.daachorse_core.specs.Refusals.{IsOutOfMemory};
@@ -16,26 +14,25 @@ use daachorse_search::view::{ForLeftmost, ForStandard};
 use std::alloc::{Allocator, Global};
 use std::marker::Model;
 
-/// An iterator over all patterns that an automaton holds, each with its value.
+/// An iterator over all patterns of an automaton, each with its value; the automaton's `iter` makes
+/// it.
 ///
-/// They come in byte order, and equal ones in order of registration. Each pattern is a vector in
-/// memory of its own. Where an allocation fails there is one error, and then the end.
-///
-/// The automaton's `iter` makes it. `daachorse_tests` compares whole listings.
+/// They come in byte order, equal ones in order of registration. Each pattern is a vector of its
+/// own. If an allocation fails, the iterator gives one error and ends.
 #[derive(Drop)]
 pub struct PatternIterator<'a, V: Copy, A: Allocator = Global> {
     walk: Walk<WalkIn<'a, V, ForStandard, A>, WalkIn<'a, V, ForLeftmost, A>>,
 }
 
-/// A walk over the elements for the standard searches, or over those for the leftmost ones. Each is compiled by
-/// itself, so that it asks for the kind once a pattern, and at no element.
+/// A walk over the elements for standard or for leftmost searches. Each is compiled by itself, so
+/// that the kind is tested once a pattern and not at each element.
 #[derive(Drop)]
 enum Walk<S, L> {
     Standard(S),
     Leftmost(L),
 }
 
-/// A walk over elements whose list the type tells.
+/// A walk with the list of elements known at compile time.
 type WalkIn<'a, V, K, A> = PatternWalk<V, Elements<'a, V, K>, A>;
 
 impl<'a, V: Copy, A: Allocator> Model for PatternIterator<'a, V, A> {
@@ -71,12 +68,10 @@ impl<'a, V: Copy, A: Allocator + Copy> Iterator for PatternIterator<'a, V, A> {
 }
 
 impl<V: Copy, A: Allocator + Copy> States<V, A> {
-    /// All patterns with their values, in byte order, and those of one pattern in order of
-    /// registration.
+    /// All patterns with their values, in byte order, equal ones in order of registration.
     ///
     /// # Errors
-    ///
-    /// An allocation failed.
+    /// Out of memory.
     pub fn pattern_iter<'a>(&'a self, alloc: A) -> Result<PatternIterator<'a, V, A>>
         ensures ok { IfOk result (λ walk. IsListing (content self.entry.now) walk) }
         ensures err { IfErr result IsOutOfMemory }
@@ -89,11 +84,7 @@ impl<V: Copy, A: Allocator + Copy> States<V, A> {
         Ok(PatternIterator { walk })
     }
 
-    /// The same patterns, by elements whose list the type tells.
-    ///
-    /// # Errors
-    ///
-    /// An allocation failed.
+    /// [`Self::pattern_iter`], with the list of elements known at compile time.
     fn pattern_walk<'a, K: ForKinds>(&'a self, alloc: A) -> Result<WalkIn<'a, V, K, A>>
         requires { K.fits self.now.kind }
         ensures ok { IfOk result (λ walk. IsListing (content self.entry.now) walk) }

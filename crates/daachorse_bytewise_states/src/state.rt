@@ -1,8 +1,4 @@
-//! One element of the double array.
-//!
-//! The layers above may rely on an element keeping its base, its check, its failure link and the
-//! position of its first output, each on its own. An element written and read is the same element,
-//! in 12 bytes with a link and in 8 without.
+//! One element of the double array, and its written form.
 
 ghost use Rattle.std.specs.Prelude.{◌≡◌, ◌+◌, ◌<◌, ◌≤◌, ◌^◌, ◌%◌, ◌++◌, IfErr, OnOk, OnErr, length, slice_index_or};
 ghost use Rattle.daachorse_core.specs.declared.errors.Limit.TheVariants.{OutputPos};
@@ -24,16 +20,14 @@ use daachorse_serializer::words::{three_words, two_words};
 use std::alloc::Allocator;
 use std::num::NonZeroU32;
 
-/// An element of a double array over bytes. `F` is the type of its failure link: a `u32`, or
-/// `Empty` where the links stand beside the elements.
+/// An element of a double array over bytes, in 12 bytes with a link and in 8 without. `F` is the
+/// type of its failure link: a `u32`, or `Empty` if the links stand beside the elements.
 ///
-/// A new element is vacant: it has no base, no output, check 0 and link 0.
-///
-/// It takes 12 bytes with a link and 8 without. The layout is that of Kanda, Akabe and Oda (arXiv
-/// 2207.13870). `daachorse_part_tests` sets and reads each part.
+/// A new element is vacant: it has no base, no output, check 0 and link 0. The layout is that of
+/// Kanda, Akabe and Oda (arXiv 2207.13870).
 #[derive(Clone, Copy, Debug, Default, PartialEq, Eq, Hash)]
 pub struct State<F> {
-    // 0 stands for none, since an `Option<NonZeroU32>` would take twice the bytes.
+    // 0 stands for none: an `Option<NonZeroU32>` would take twice the bytes.
     base: u32,
     fail: F,
     // The output position, 0 for none, and the check.
@@ -41,7 +35,7 @@ pub struct State<F> {
 }
 
 impl<F: Copy> State<F> {
-    /// What leads, by exclusive or with a byte, to the element of that byte's child.
+    /// The base. Its exclusive or with a byte is the element of that byte's child.
     #[inline(always)]
     pub fn base(&self) -> Option<NonZeroU32>
         ensures { number result ≡ base_in self.now }
@@ -73,7 +67,7 @@ impl<F: Copy> State<F> {
         NonZeroU32::new(self.packed.a().get())
     }
 
-    /// The word of the output position and of the byte: the position times 256, and the byte.
+    /// The word of the output position and the check: 256 times the position, plus the check.
     #[inline(always)]
     pub fn word(&self) -> u32
         ensures { result ≡ word_in self.now }
@@ -117,8 +111,7 @@ impl<F: Copy> State<F> {
     /// Sets the position of the first output.
     ///
     /// # Errors
-    ///
-    /// [`Limit::OutputPos`] where the position is past 16,777,215; nothing is changed then.
+    /// [`Limit::OutputPos`] if the position is past 16,777,215; the element then stays as it is.
     #[inline(always)]
     pub fn set_output_pos(&mut self, position: Option<NonZeroU32>) -> Result<()>
         ensures output { OnOk result (output_in self.new ≡ number position) }
@@ -135,9 +128,8 @@ impl<F: Copy> State<F> {
         Ok(())
     }
 
-    /// The index of the element that a byte leads to, if there is one.
-    ///
-    /// It reads one other element at most.
+    /// The index of the element that a byte leads to, if there is one. It reads at most one other
+    /// element.
     #[inline(always)]
     pub fn child(&self, label: u8, states: &[State<F>]) -> Option<u32>
         requires blocks { length states.now % 256 ≡ 0 }
@@ -148,9 +140,7 @@ impl<F: Copy> State<F> {
         Some(child)
     }
 
-    /// The index of the element that a byte leads to, if there is one, and that element's [`Self::word`].
-    ///
-    /// It reads one other element at most.
+    /// As [`Self::child`], with that element's [`Self::word`].
     #[inline(always)]
     pub fn child_and_word(&self, label: u8, states: &[State<F>]) -> Option<(u32, u32)>
         requires blocks { length states.now % 256 ≡ 0 }
@@ -169,7 +159,7 @@ impl<F: Copy> State<F> {
 }
 
 impl State<u32> {
-    /// The same element, whose link stands elsewhere.
+    /// The element without its link.
     #[inline(always)]
     pub fn without_link(&self) -> State<Empty>
         ensures { result ≡ without_link self.now }
@@ -182,7 +172,7 @@ impl State<u32> {
     }
 }
 
-/// What an element has as its failure link.
+/// The failure link in an element: a `u32`, or `Empty` if the links stand beside the elements.
 pub trait Link: Serializable + Copy {
     /// Appends an element's base, this link, and the word of its other parts, all at once.
     ///
@@ -223,7 +213,7 @@ impl Link for Empty {
     }
 }
 
-/// The base, 0 for none; the failure link; and a word, the output position times 256 and the check.
+/// The base, 0 for none; the failure link; and [`State::word`].
 impl<F: Link> Serializable for State<F> {
     ghost is_value = { IsStateValue F.is_value };
 

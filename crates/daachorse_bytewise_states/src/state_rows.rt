@@ -1,7 +1,4 @@
 //! Rows of the states near the root.
-//!
-//! The layers above may rely on [`States::rows`] being right for both views of the states, and on the
-//! states near the root having rows.
 
 ghost use Rattle.std.specs.Prelude.{◌≡◌, ◌≤◌, length, IfOk, IfSome};
 ghost use Rattle.daachorse_model.specs.declared.MatchKind.TheVariants.{Standard};
@@ -18,17 +15,17 @@ use daachorse_rows::rows::Rows;
 use std::alloc::{AllocError, Allocator};
 
 impl<V: Copy, A: Allocator> States<V, A> {
-    /// Rows of the states near the root.
+    /// Rows of the states near the root; `None` if there is no room for those that must have one.
     ///
-    /// Each state has one whose text has at most two bytes, and as many others as there is room for.
-    /// Where those alone are more than there is room for, the answer is `None`; 485 rows always fit. Where
-    /// there are no more states, each has a row, and a standard search takes one look for each byte.
+    /// Each state whose text has at most two bytes has a row, and so have as many others as there
+    /// is room for; 485 rows always fit. If every state has a row, a standard search takes one look
+    /// for each byte.
     ///
-    /// They take at most 252,672 bytes of slots, two bytes for each element, and a table of 1,276 bytes.
+    /// Rows take at most 252,672 bytes of slots, two bytes for each element, and a table of 1,276
+    /// bytes.
     ///
     /// # Errors
-    ///
-    /// An allocation failed.
+    /// Out of memory.
     pub fn rows<L: Allocator + Copy>(&self, alloc: L) -> Result<Option<Rows<L>>, AllocError>
         ensures right { IfOk result (λ rows. IfSome rows (HasRows self.now)) }
         ensures covered { IfOk result (λ rows. IfSome rows (CoversNear self.now)) }
@@ -51,7 +48,7 @@ impl<V: Copy, A: Allocator> States<V, A> {
         }
     }
 
-    /// The bytes that lead from an element to another, in order.
+    /// The bytes that lead from one element to another, in order.
     fn edge_bytes<L: Allocator + Copy>(&self, alloc: L) -> Result<Vec<u8, L>, AllocError>
         ensures few { IfOk result (λ v. length v.items ≤ 256) }
         ensures all { IfOk result (λ v. AreLabels (content self.now) (λ label unit. label ≡ unit) v.items) }
@@ -63,7 +60,7 @@ impl<V: Copy, A: Allocator> States<V, A> {
     }
 }
 
-/// Of each element whether it is the base of one.
+/// Whether each element is the base of some element.
 fn mark_bases<V: Copy, L: Allocator>(
     alloc: L,
     elements: &Elements<'_, V>,
@@ -79,7 +76,7 @@ fn mark_bases<V: Copy, L: Allocator>(
     Ok(marks)
 }
 
-/// Of each byte whether it leads to an element from one of these bases.
+/// Whether each byte leads to an element from one of these bases.
 fn mark_edges<V: Copy, L: Allocator>(
     alloc: L,
     elements: &Elements<'_, V>,

@@ -1,7 +1,4 @@
 //! The states of an automaton over bytes, as they are kept.
-//!
-//! The layers above may rely on the parts being valid, on what is built holding just the dictionary
-//! that it was built for, and on the views of the parts being the same automaton.
 
 ghost use Rattle.std.specs.Prelude.{◌≡◌, ◌≢◌, ◌<◌, ◌%◌, ◌^◌, ℕ, List, length, map, slice_index_or, IfOk, IfErr};
 ghost use Rattle.daachorse_core.specs.declared.errors.Limit.TheVariants.{NumElements};
@@ -36,10 +33,9 @@ use std::marker::Model;
 
 /// The states and the outputs of an automaton over bytes, with values of type `V`.
 ///
-/// For the standard searches an element keeps its failure link, and a table says what each byte
-/// leads to from the root. For the leftmost searches the links stand beside the elements.
-///
-/// The outputs stand in a list of their own. `daachorse_tests` looks at states by a view of them.
+/// For standard searches an element keeps its failure link, and a table has the element that each
+/// byte leads to from the root. For leftmost searches the links stand beside the elements. The
+/// outputs are a list of their own.
 #[derive(Drop)]
 pub struct States<V: Copy, A: Allocator = Global> {
     kind: MatchKind,
@@ -81,9 +77,8 @@ impl<V: Copy, A: Allocator + Copy> States<V, A> {
     /// profile, if it has counts, decides where the states stand, and nothing else.
     ///
     /// # Errors
-    ///
-    /// [`Limit::NumElements`](daachorse_core::errors::Limit::NumElements), which comes only where
-    /// more than 16,777,214 texts begin a longer pattern, and out of memory.
+    /// [`Limit::NumElements`](daachorse_core::errors::Limit::NumElements), only if more than
+    /// 16,777,214 texts begin a longer pattern; or out of memory.
     pub fn build(
         alloc: A,
         kind: MatchKind,
@@ -103,11 +98,7 @@ impl<V: Copy, A: Allocator + Copy> States<V, A> {
         Self::new(alloc, kind, elements, outputs, num_states)
     }
 
-    /// The automaton that these elements and outputs make up.
-    ///
-    /// # Errors
-    ///
-    /// An allocation failed.
+    /// The automaton of these elements and outputs.
     pub(crate) fn new(
         alloc: A,
         kind: MatchKind,
@@ -146,7 +137,7 @@ impl<V: Copy, A: Allocator + Copy> States<V, A> {
 }
 
 impl<V: Copy, A: Allocator> States<V, A> {
-    /// The searches that the automaton is for.
+    /// The kind of match that the automaton finds.
     #[inline(always)]
     pub fn kind(&self) -> MatchKind
         ensures { result ≡ self.now.kind }
@@ -154,7 +145,7 @@ impl<V: Copy, A: Allocator> States<V, A> {
         self.kind
     }
 
-    /// The number of elements, those included that are no state.
+    /// The number of elements, those that hold no state included.
     #[inline(always)]
     pub fn num_elements(&self) -> usize
         ensures all { result ≡ count self.now }
@@ -163,7 +154,7 @@ impl<V: Copy, A: Allocator> States<V, A> {
         self.elements().num_elements()
     }
 
-    /// The elements, whichever list they stand in.
+    /// The elements, in whichever list they stand.
     pub(crate) fn elements(&self) -> Elements<'_, V>
         ensures parts { result ≡ self.entry.now }
         ensures valid { IsValid result }
@@ -172,7 +163,7 @@ impl<V: Copy, A: Allocator> States<V, A> {
         self.elements_in::<ByKind>()
     }
 
-    /// The elements, with what tells the list that they stand in.
+    /// The elements, with `K` to find their list.
     pub(crate) fn elements_in<K: ForKinds>(&self) -> Elements<'_, V, K>
         requires { K.fits self.now.kind }
         ensures parts { result ≡ self.entry.now }
@@ -189,7 +180,7 @@ impl<V: Copy, A: Allocator> States<V, A> {
         )
     }
 
-    /// How many texts begin a pattern, the empty one among them.
+    /// The number of texts that begin a pattern, the empty one included.
     #[inline(always)]
     pub fn num_states(&self) -> u32
         ensures reached { PassesAt (is_reached (child self.now)) result }
@@ -198,7 +189,7 @@ impl<V: Copy, A: Allocator> States<V, A> {
         self.num_states
     }
 
-    /// What the standard searches see.
+    /// What standard searches see.
     #[inline(always)]
     pub fn standard(&self) -> Standard<'_, V>
         requires { self.now.kind ≡ Standard }
@@ -213,7 +204,7 @@ impl<V: Copy, A: Allocator> States<V, A> {
         )
     }
 
-    /// What the leftmost searches see.
+    /// What leftmost searches see.
     #[inline(always)]
     #[tactic(auto, using(daachorse_array::proofs::DeadLaws::leftmost_kind))]
     pub fn leftmost(&self) -> Leftmost<'_, V>
@@ -234,8 +225,7 @@ impl<V: Copy, A: Allocator + Copy> States<V, A> {
     /// The same states, in memory of their own.
     ///
     /// # Errors
-    ///
-    /// An allocation failed.
+    /// Out of memory.
     pub fn clone(&self) -> Result<Self>
         ensures same { IfOk result (λ s. s ≡ self.now) }
         ensures err { IfErr result IsOutOfMemory }
@@ -252,7 +242,7 @@ impl<V: Copy, A: Allocator + Copy> States<V, A> {
     }
 }
 
-/// States are equal where all that they store is.
+/// States are equal if all that they store is.
 impl<V: Copy + PartialEq, A: Allocator> PartialEq for States<V, A> {
     ghost use Rattle.daachorse_bytewise_states.specs.Equality.{parts_eq, parts_per};
 
@@ -300,8 +290,8 @@ fn copy_of<T: Copy, A: Allocator + Copy>(items: &Vec<T, A>) -> Result<Vec<T, A>>
     Ok(Vec::from_slice(*items.allocator(), items.as_slice())?)
 }
 
-/// The element of each byte's child from the root, the root itself where there is none, and the
-/// word of that element, which has the position of its first output.
+/// For each byte the root's child, the root itself if there is none, and that element's
+/// [`State::word`].
 fn root_table<A: Allocator>(alloc: A, states: &[State<u32>]) -> Result<Vec<(u32, u32), A>>
     requires blocks { length states.now % 256 ≡ 0 }
     requires some { 0 < length states.now }

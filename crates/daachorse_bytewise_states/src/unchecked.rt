@@ -1,8 +1,7 @@
-//! Lists that were read from any bytes, and whether they are an automaton's.
+//! Whether lists read from untrusted bytes are an automaton's.
 //!
-//! The layers above may rely on two answers that together say yes exactly where the parts are valid: [`are_lists`]
-//! says whether elements may be looked at, and then [`Elements::are_valid`] whether the rest is right. Either takes
-//! memory and time linear in the lists.
+//! [`are_lists`] says whether the elements may be accessed, and [`Elements::are_valid`] then
+//! whether the rest is right. Both take time and memory linear in the lists.
 
 ghost use Rattle.std.specs.Prelude.{◌≡◌, ◌<◌, true, false, length, slice_index_or, IfOk, IfErr};
 ghost use Rattle.daachorse_core.specs.Refusals.{IsOutOfMemory};
@@ -78,7 +77,8 @@ fn are_standard(standard: &[State<u32>], leftmost: &[State<Empty>], fails: &[u32
     are_blocks(standard)
 }
 
-/// Whether the elements of these lists may be looked at: each base leads by each byte to one of them.
+/// Whether the elements of these lists may be accessed: from each base each byte leads to one of
+/// them.
 pub(crate) fn are_lists(
     kind: MatchKind,
     standard: &[State<u32>],
@@ -97,10 +97,6 @@ pub(crate) fn are_lists(
 
 impl<'a, V: Copy, K: ForKinds> Elements<'a, V, K> {
     /// Whether the parts are an automaton's.
-    ///
-    /// # Errors
-    ///
-    /// An allocation failed.
     pub(crate) fn are_valid<A: Allocator + Copy>(&self, alloc: A) -> Result<bool>
         ensures yes { IfOk result (λ valid. valid ≡ true → IsValid self.now) }
         ensures no { IfOk result (λ valid. valid ≡ false → IsValid self.now → ⊥) }

@@ -1,7 +1,4 @@
 //! What a search sees of the states.
-//!
-//! The layers above may rely on a [`View`] being the automaton of its parts, on `turn` following no
-//! link and counting one turn, and on no call taking memory.
 
 ghost use Rattle.std.specs.Prelude.{◌≡◌, ◌<◌, ◌/◌, ℕ, true, false, List, [], length, slice_index, slice_index_or, IfSome};
 ghost use Rattle.daachorse_core.specs.Outputs.{number};
@@ -17,12 +14,12 @@ use daachorse_search::view::{ForLeftmost, ForStandard, Searches};
 use std::marker::{Model, PhantomData};
 use std::num::NonZeroU32;
 
-/// What the standard searches and the leftmost ones read in different ways.
+/// What standard and leftmost searches read in different ways.
 pub trait Reads: Searches {
-    /// What an element has as its link.
+    /// The type of the link that an element has.
     type Link: Copy;
 
-    /// What stands beside the elements.
+    /// The type of what stands beside the elements.
     type Beside: Copy;
 
     /// The lists of the parts, of which some are empty.
@@ -31,21 +28,22 @@ pub trait Reads: Searches {
     /// The table of the root.
     ghost root: { List Self.Beside → List (ℕ × ℕ) };
 
-    /// The link of an element at an index.
+    /// The link of the element at an index.
     ghost link: { State Self.Link → List Self.Beside → ℕ → ℕ };
 
-    /// The element that a byte leads to from the root, and that element's word, if they stand in a table.
+    /// The element that a byte leads to from the root, and that element's word, if a table has
+    /// them.
     fn from_root(beside: &[Self::Beside], label: u8) -> Option<(u32, u32)>
         requires { Self.leftmost ≡ false → length beside.now ≡ 256 }
         ensures { IfSome result (λ to. (Self.leftmost ≡ false) × (to ≡ slice_index_or (root beside.now) label (0, 0))) };
 
-    /// The link of the element of a state.
+    /// The link of a state's element.
     fn link(element: &State<Self::Link>, beside: &[Self::Beside], state: u32) -> u32
         requires { Self.leftmost ≡ true → state < length beside.now }
         ensures { result ≡ link element.now beside.now state };
 }
 
-/// An element has its link, and a table tells where each byte leads from the root.
+/// An element has its link, and a table has the element that each byte leads to from the root.
 impl Reads for ForStandard {
     type Link = u32;
 
@@ -70,7 +68,7 @@ impl Reads for ForStandard {
     }
 }
 
-/// The links stand beside the elements, and the root is looked at as any state is.
+/// The links stand beside the elements, and the root is read as any state is.
 impl Reads for ForLeftmost {
     type Link = Empty;
 
@@ -96,10 +94,10 @@ impl Reads for ForLeftmost {
     }
 }
 
-/// The states as the standard searches see them.
+/// The states as standard searches see them.
 pub type Standard<'a, V> = View<'a, V, ForStandard>;
 
-/// The states as the leftmost searches see them.
+/// The states as leftmost searches see them.
 pub type Leftmost<'a, V> = View<'a, V, ForLeftmost>;
 
 /// The states as the searches `S` see them.
@@ -108,7 +106,7 @@ pub struct View<'a, V: Copy, S: Reads> {
     states: &'a [State<S::Link>],
     beside: &'a [S::Beside],
     outputs: &'a [Output<V>],
-    // For contracts alone, and so is the number of states.
+    // For contracts alone, as is the number of states.
     kind: MatchKind,
     num_states: u32,
     searches: PhantomData<S>,
@@ -127,7 +125,7 @@ impl<'a, V: Copy, S: Reads> Model for View<'a, V, S> {
 }
 
 impl<'a, V: Copy, S: Reads> View<'a, V, S> {
-    /// The automaton of these elements, with what stands beside them.
+    /// A view of these elements and of what stands beside them.
     #[inline(always)]
     pub(crate) fn new(
         kind: MatchKind,
@@ -201,7 +199,7 @@ impl<'a, V: Copy, S: Reads> Automaton<V> for View<'a, V, S> {
                 return Look::Next(child, position_in(word));
             }
         }
-        // A copy loads base and link together, and the element's index is not needed again.
+        // A copy, so that base and link are loaded together and the index is not needed again.
         let states = self.states;
         let element = states[state as usize];
         if let Some((child, word)) = element.child_and_word(label, states) {
@@ -251,8 +249,7 @@ impl<'a, V: Copy, S: Reads> Automaton<V> for View<'a, V, S> {
     ghost no_output = { no_output };
 }
 
-/// The position of the first output in the word of an element. Both ways to a child meet in such a word, of which it
-/// is taken once.
+/// The position of the first output in an element's word.
 #[inline(always)]
 fn position_in(word: u32) -> Option<NonZeroU32>
     ensures { number result ≡ word / 256 }

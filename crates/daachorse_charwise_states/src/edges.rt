@@ -1,8 +1,4 @@
-//! The elements and their children, as a listing goes over them, and the check of parts that were read.
-//!
-//! The layers above may rely on the table of the depths, which [`States::depths`] makes, on
-//! [`States::pattern_iter`] giving the listing of the dictionary, and on [`Elements`] looking at any elements, valid
-//! or not, with any codes that tell characters apart.
+//! The elements and their children, for listings and for the check of parts that were read.
 
 ghost use Rattle.std.specs.Prelude.{◌≡◌, ◌<◌, ◌≤◌, ◌-◌, Some, length, slice_get, IfSome, IfOk, IfErr};
 ghost use Rattle.daachorse_core.specs.Outputs.{number};
@@ -29,7 +25,8 @@ use std::alloc::{Allocator, Global};
 use std::marker::Model;
 use std::num::NonZeroU32;
 
-/// Elements with the character of each code. They may be those of an automaton or any others.
+/// Elements of an automaton, or untrusted ones in whole blocks and with bases in range, with the
+/// character of each code.
 #[derive(Drop)]
 pub struct Elements<'a, V: Copy, A: Allocator = Global> {
     pub(crate) kind: MatchKind,
@@ -60,10 +57,6 @@ impl<'a, V: Copy, A: Allocator> Model for Elements<'a, V, A> {
 
 impl<'a, V: Copy, A: Allocator + Copy> Elements<'a, V, A> {
     /// The elements of these lists.
-    ///
-    /// # Errors
-    ///
-    /// An allocation failed.
     pub(crate) fn new(
         alloc: A,
         kind: MatchKind,
@@ -91,7 +84,7 @@ impl<'a, V: Copy, A: Allocator + Copy> Elements<'a, V, A> {
 }
 
 impl<'a, V: Copy, A: Allocator> Elements<'a, V, A> {
-    /// The base of an element; `None` also past the last.
+    /// The base of an element; `None` if it has none or there is no such element.
     fn base_at(&self, element: usize) -> Option<NonZeroU32>
         ensures { number result ≡ base_of self.now.parts element }
     {
@@ -121,8 +114,7 @@ impl<'a, V: Copy, A: Allocator> Elements<'a, V, A> {
         self.mapper.get(character).is_some()
     }
 
-    /// The element whose child an element is, and the character that leads to it; `None` where it is
-    /// no child.
+    /// The parent of an element and the character that leads to it; `None` if it is no child.
     fn parent(&self, element: usize) -> Option<(usize, char)>
         requires { element < count self.now.parts }
         ensures edge { result ≡ edge_of self.now element }
@@ -137,11 +129,10 @@ impl<'a, V: Copy, A: Allocator> Elements<'a, V, A> {
     }
 }
 
-/// The children of an element are a group of their own, whose number is the element's. That group is
-/// empty where there are none, so that an element's group is known without a look at the element.
+/// The children of an element are the group of the element's own number, which is empty if there
+/// are none. So a group is known without reading the element.
 ///
-/// A unit is a character, which its UTF-8 spells. A number that is no character takes bytes too, as
-/// the definitions have it.
+/// A unit is a character, spelled in UTF-8. The definitions give bytes to any other number too.
 impl<'a, V: Copy, A: Allocator> Array for Elements<'a, V, A> {
     ghost use Rattle.std.specs.Char.{encode_utf8};
     ghost use Rattle.std.specs.Prelude.{length};
@@ -245,12 +236,10 @@ impl<'a, V: Copy, A: Allocator> Keys<V, A> for Elements<'a, V, A> {
 }
 
 impl<V: Copy, A: Allocator + Copy> States<V, A> {
-    /// Of each element how many characters lead to it from the root; 4,294,967,295 of one that no
-    /// text leads to.
+    /// The depth of each element, in characters; 4,294,967,295 if no text leads to it.
     ///
     /// # Errors
-    ///
-    /// An allocation failed.
+    /// Out of memory.
     pub fn depths(&self, alloc: A) -> Result<Vec<u32, A>>
         ensures ok { IfOk result (λ v. IsDepthTable (child self.now) (length self.now.coding.table) (count self.now) v.items) }
         ensures err { IfErr result IsOutOfMemory }
@@ -259,12 +248,10 @@ impl<V: Copy, A: Allocator + Copy> States<V, A> {
         depths_by_parents(alloc, &elements)
     }
 
-    /// All patterns with their values, as characters: in the order of these, which is the order of
-    /// their bytes, and those of one pattern in order of registration.
+    /// All patterns with their values, in byte order, equal ones in order of registration.
     ///
     /// # Errors
-    ///
-    /// An allocation failed.
+    /// Out of memory.
     pub fn pattern_iter<'a>(&'a self, alloc: A) -> Result<PatternWalk<V, Elements<'a, V, A>, A>>
         ensures ok { IfOk result (λ walk. IsListing (content self.entry.now) walk) }
         ensures texts { IfOk result AreTexts }
@@ -290,7 +277,7 @@ fn characters<A: Allocator + Copy>(alloc: A, mapper: &CodeMapper<A>) -> Result<V
     Ok(characters)
 }
 
-/// The character at a code point, if there is one: there is none at a surrogate, nor past the last.
+/// The character at a code point; `None` at a surrogate or past the last.
 fn character_at(code_point: usize) -> Option<char>
     ensures { result ≡ character_at code_point }
 {

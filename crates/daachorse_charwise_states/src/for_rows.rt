@@ -1,8 +1,7 @@
 //! What a search with rows sees of the states.
 //!
-//! The layers above may rely on a [`ForRows`] being the automaton of its parts, with labels by which a
-//! row is looked at: an ASCII character is its own, whether some pattern has it or not, so that its slot
-//! is found with no look at the table of codes, and any other character has one behind these, by its code.
+//! An ASCII character is its own label, in a pattern or not, so that its slot is found without the
+//! table of codes. The label of any other character is 128 plus its code.
 
 ghost use Rattle.std.specs.Prelude.{◌≡◌};
 
@@ -14,13 +13,13 @@ use daachorse_search::view::{ForLeftmost, ForStandard, Searches};
 use std::marker::Model;
 use std::num::NonZeroU32;
 
-/// How many characters are ASCII.
+/// The number of ASCII characters.
 pub(crate) const ASCII: u32 = 128;
 
-/// The states as the standard searches with rows see them.
+/// The states as standard searches with rows see them.
 pub type StandardForRows<'a, V> = ForRows<'a, V, ForStandard>;
 
-/// The states as the leftmost searches with rows see them.
+/// The states as leftmost searches with rows see them.
 pub type LeftmostForRows<'a, V> = ForRows<'a, V, ForLeftmost>;
 
 /// The states as the searches `S` with rows see them.
@@ -38,7 +37,7 @@ impl<'a, V: Copy, S: Searches> Model for ForRows<'a, V, S> {
 }
 
 impl<'a, V: Copy, S: Searches> ForRows<'a, V, S> {
-    /// The automaton of a view.
+    /// A view with labels for rows.
     #[inline(always)]
     pub fn new(view: View<'a, V, S>) -> Self
         ensures { result ≡ view.entry }
@@ -85,7 +84,7 @@ impl<'a, V: Copy, S: Searches> Automaton<V> for ForRows<'a, V, S> {
         if label >= ASCII {
             return self.view.turn(state, label - ASCII, turns);
         }
-        // A character that no pattern has leads to the root, as a look there would tell.
+        // A character of no pattern leads to the root.
         match self.view.label(char::from(label as u8)) {
             Some(code) => self.view.turn(state, code, turns),
             None => {

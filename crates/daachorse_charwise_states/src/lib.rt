@@ -1,8 +1,7 @@
 //! The states of the automaton over characters, in a double array.
 //!
-//! The layers above may rely on [`states::States`] holding just the dictionary that it was built
-//! for, on what a search sees of it ([`view::Standard`] and [`view::Leftmost`], and with rows
-//! [`for_rows::ForRows`]), on an element keeping each of its parts, and on the law of its written form.
+//! [`states::States`] holds a dictionary, and [`view::View`] is what a search sees of it, or with
+//! rows [`for_rows::ForRows`].
 #![tactic(auto)]
 
 pub mod edges;

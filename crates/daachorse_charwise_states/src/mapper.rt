@@ -1,7 +1,4 @@
 //! Codes of characters: small numbers, the smallest for the most frequent characters.
-//!
-//! The layers above may rely on what a mapper made of frequencies codes, and in what order, on a
-//! mapper that was read being any table and any size, and on the law of its written form.
 
 ghost use Rattle.std.specs.Prelude.{◌≡◌, ◌≢◌, ℕ, ◌<◌, ◌^◌, ◌==◌, ◌++◌, max, length, slice_get, slice_index, true, false, IfOk, IfErr, MatchOption};
 ghost use Rattle.std.specs.Int.{IsNextPowerOfTwo};
@@ -25,11 +22,8 @@ use std::marker::Model;
 /// The entry of a code point that has no code.
 pub const INVALID_CODE: u32 = u32::MAX;
 
-/// The codes of characters.
-///
-/// The codes are a list by code point, of four bytes for each up to the greatest that was counted.
-/// The frequent characters have the small codes, as Kanda, Akabe and Oda (arXiv 2207.13870) have
-/// it. `daachorse_part_tests` compares codes.
+/// The codes of characters: a list by code point, of four bytes for each up to the greatest
+/// counted. Frequent characters have small codes, as in Kanda, Akabe and Oda (arXiv 2207.13870).
 #[derive(Drop)]
 #[derive_where(Debug)]
 pub struct CodeMapper<A: Allocator = Global> {
@@ -47,16 +41,14 @@ impl<A: Allocator> Model for CodeMapper<A> {
 }
 
 impl<A: Allocator + Copy> CodeMapper<A> {
-    /// The mapper for these frequencies, by code point. The indexes of frequency above 0 have the
-    /// codes 0, 1, 2 and so on by falling frequency, and those of one frequency by index.
+    /// The mapper for these frequencies, by code point. Code points of frequency above 0 have the
+    /// codes 0, 1, 2 and so on, by falling frequency and then by code point.
     ///
     /// # Conditions
-    ///
     /// There are at most 4,294,967,295 frequencies.
     ///
     /// # Errors
-    ///
-    /// An allocation failed.
+    /// Out of memory.
     pub fn new(alloc: A, freqs: &[u32]) -> Result<Self>
         requires { length freqs.now < 2 ^ 32 }
         ensures ok { IfOk result (λ m. IsCodingOf freqs.now m) }
@@ -70,11 +62,10 @@ impl<A: Allocator + Copy> CodeMapper<A> {
         })
     }
 
-    /// A mapper with the same table and the same alphabet size.
+    /// A mapper with the same table and alphabet size.
     ///
     /// # Errors
-    ///
-    /// An allocation failed.
+    /// Out of memory.
     pub fn clone(&self) -> Result<Self>
         ensures same { IfOk result (λ m. m ≡ self.now) }
         ensures err { IfErr result IsOutOfMemory }
@@ -88,8 +79,6 @@ impl<A: Allocator + Copy> CodeMapper<A> {
 
 impl<A: Allocator> CodeMapper<A> {
     /// The code of a character, if it has one.
-    ///
-    /// It is one look at the list, and takes no memory.
     #[inline(always)]
     pub fn get(&self, c: char) -> Option<u32>
         ensures { result ≡ code_of self.now c }
@@ -97,8 +86,8 @@ impl<A: Allocator> CodeMapper<A> {
         code_in(&self.table, c)
     }
 
-    /// The size of the alphabet. Of a mapper made of frequencies it is the number of characters
-    /// with a code; of one that was read it may be any number.
+    /// The size of the alphabet. For a mapper made from frequencies it is the number of characters
+    /// with a code; for one that was read it may be any number.
     #[inline(always)]
     pub fn alphabet_size(&self) -> u32
         ensures { result ≡ self.now.alphabet_size }
@@ -107,7 +96,7 @@ impl<A: Allocator> CodeMapper<A> {
     }
 
     /// The least power of two that is at least 2 and at least the alphabet size, if it is below
-    /// 4294967296.
+    /// 4,294,967,296.
     #[inline(always)]
     pub fn block_len(&self) -> Option<u32>
         ensures { MatchOption result (2 ^ 31 < self.now.alphabet_size) (IsNextPowerOfTwo (max 2 self.now.alphabet_size)) }
@@ -124,14 +113,13 @@ impl<A: Allocator> CodeMapper<A> {
         &self.table
     }
 
-    /// Whether the codes are distinct and below the size of the alphabet, as those of a mapper made
-    /// of frequencies are. Those of one that was read may be any numbers.
+    /// Whether the codes are distinct and below the alphabet size, as in a mapper made from
+    /// frequencies. In one that was read they may be any numbers.
     ///
-    /// It takes a byte for each number below the size of the alphabet.
+    /// It takes a byte for each number below the alphabet size.
     ///
     /// # Errors
-    ///
-    /// An allocation failed.
+    /// Out of memory.
     pub fn is_coding<B: Allocator>(&self, alloc: B) -> Result<bool>
         ensures yes { IfOk result (λ right. right ≡ true → IsCoding self.now) }
         ensures no { IfOk result (λ right. right ≡ false → IsCoding self.now → ⊥) }
@@ -211,9 +199,7 @@ impl<A: Allocator> SerializableVec for CodeMapper<A> {
     ghost law = { coding_law };
 }
 
-/// Whether the codes of a table are distinct and below the size of an alphabet.
-///
-/// Each number below that size takes a byte.
+/// Whether the codes of a table are distinct and below the alphabet size.
 fn are_codes<A: Allocator>(alloc: A, table: &[u32], alphabet_size: u32) -> Result<bool>
     ensures yes { IfOk result (λ right. right ≡ true → IsCoding (coding_from (table.now, alphabet_size))) }
     ensures no { IfOk result (λ right. right ≡ false → IsCoding (coding_from (table.now, alphabet_size)) → ⊥) }
@@ -245,8 +231,7 @@ pub fn code_in(table: &[u32], c: char) -> Option<u32>
     }
 }
 
-/// The indexes of frequency above 0 with their frequencies, by falling frequency, and those of one
-/// frequency by index.
+/// The indexes of frequency above 0 with their frequencies, by falling frequency and then by index.
 fn rank<A: Allocator>(alloc: A, freqs: &[u32]) -> Result<Vec<(usize, u32), A>>
     ensures ranked { IfOk result (λ v. AreRanked freqs.now v.items) }
     ensures err { IfErr result IsOutOfMemory }
@@ -256,8 +241,7 @@ fn rank<A: Allocator>(alloc: A, freqs: &[u32]) -> Result<Vec<(usize, u32), A>>
     Ok(ranked)
 }
 
-/// The indexes of frequency above 0 with their frequencies, by index. Room is made as they come, and
-/// not by an estimate, so that each refused growth is an error.
+/// The indexes of frequency above 0 with their frequencies, by index.
 fn used<A: Allocator>(alloc: A, freqs: &[u32]) -> Result<Vec<(usize, u32), A>>
     ensures used { IfOk result (λ v. v.items ≡ used_in freqs.now) }
     ensures err { IfErr result IsOutOfMemory }
@@ -271,7 +255,7 @@ fn used<A: Allocator>(alloc: A, freqs: &[u32]) -> Result<Vec<(usize, u32), A>>
     Ok(used)
 }
 
-/// A table of `len` entries, with the rank at each index that is ranked.
+/// A table of `len` entries, with the rank at each ranked index.
 fn fill<A: Allocator>(alloc: A, ranked: &[(usize, u32)], len: usize) -> Result<Vec<u32, A>>
     requires few { length ranked.now < 2 ^ 32 }
     requires inside { (k : ℕ) → k < length ranked.now → index_at ranked.now k < len }

@@ -1,8 +1,4 @@
-//! A trie over characters written into the elements of a double array.
-//!
-//! The layers above may rely on each state standing at the index that the placement gave it, with
-//! its base, its link, its outputs and its parent's index for a check, and on no vacant element
-//! being anybody's child.
+//! A trie written into the elements of a double array.
 
 ghost use Rattle.std.specs.Prelude.{◌≡◌, ◌≢◌, ◌<◌, ◌≤◌, ◌^◌, ℕ, length, false, slice_index, IfOk, IfErr};
 ghost use Rattle.std.specs.Int.{IsPowerOfTwo};
@@ -29,13 +25,12 @@ use daachorse_placement::build_helper::{BuildHelper, Profile, SiblingGroup};
 use std::alloc::Allocator;
 use std::num::NonZeroU32;
 
-/// The elements that hold the trie of a builder, whose links and outputs are built, in blocks of
-/// this length. What the profile counted decides which groups of siblings are placed first.
+/// The elements that hold a builder's trie, whose links and outputs are built, in blocks of
+/// `block_len`. The groups of siblings that the profile counted most are placed first.
 ///
 /// # Errors
-///
-/// [`Limit::NumElements`](daachorse_core::errors::Limit::NumElements) where the groups of siblings
-/// need too many blocks, and out of memory.
+/// [`Limit::NumElements`](daachorse_core::errors::Limit::NumElements) if the groups need too many
+/// blocks, or out of memory.
 pub(crate) fn pack<V: Copy, A: Allocator + Copy>(
     alloc: A,
     nfa: &NfaBuilder<char, V, A>,
@@ -60,8 +55,7 @@ pub(crate) fn pack<V: Copy, A: Allocator + Copy>(
     write_states(alloc, nfa.states(), &groups, &helper)
 }
 
-/// The groups of siblings of a trie over characters, with the codes of these for labels, the
-/// heaviest first.
+/// The groups of siblings of a trie over characters, labelled by codes, the heaviest first.
 fn coded_groups<V: Copy, A: Allocator + Copy>(
     alloc: A,
     nfa: &NfaBuilder<char, V, A>,
@@ -104,7 +98,7 @@ fn write_states<V: Copy, A: Allocator + Copy>(
     Ok(elements)
 }
 
-/// Writes each state but the dead one to its element, with the dead state for a check.
+/// Writes each state but the dead one to its element, with the dead state as its check.
 fn place_states<L: EdgeLabel, V: Copy, A: Allocator>(
     elements: &mut [State],
     states: &[NfaBuilderState<L, V, A>],
@@ -126,7 +120,7 @@ fn place_states<L: EdgeLabel, V: Copy, A: Allocator>(
     }
 }
 
-/// An element with these parts, and the dead state for a check.
+/// An element with these parts, and the dead state as its check.
 fn element_of(base: u32, fail: u32, output_pos: Option<NonZeroU32>) -> State
     ensures base { base_in result ≡ base }
     ensures check { check_in result ≡ 1 }
@@ -142,7 +136,7 @@ fn element_of(base: u32, fail: u32, output_pos: Option<NonZeroU32>) -> State
     element
 }
 
-/// Gives the children of each group their parent's index for a check.
+/// Sets the check of each group's children to their parent's index.
 fn set_checks<A: Allocator>(elements: &mut [State], groups: &[SiblingGroup<A>], idx_map: &[u32])
     requires parents { (k : ℕ) → k < length groups.now → group_parent groups.now k < length idx_map.now }
     requires ids { (k : ℕ) → k < length groups.now → AreIds (length idx_map.now) (children_of groups.now k) }
@@ -156,7 +150,7 @@ fn set_checks<A: Allocator>(elements: &mut [State], groups: &[SiblingGroup<A>], 
     }
 }
 
-/// Gives these children the check.
+/// Sets the check of these children.
 fn set_check(elements: &mut [State], children: &[(u32, u32)], idx_map: &[u32], check: u32)
     requires ids { AreIds (length idx_map.now) children.now }
     requires inside { (t : ℕ) → t < length idx_map.now → slice_index idx_map.now t < length elements.old }

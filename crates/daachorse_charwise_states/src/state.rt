@@ -1,7 +1,4 @@
 //! One element of the double array, and its written form.
-//!
-//! The layers above may rely on an element keeping its base, its check, its failure link and the
-//! position of its first output, each on its own, and on being read back from what was written.
 
 ghost use Rattle.std.specs.Prelude.{◌≡◌, ◌+◌, ℕ, IfErr, length, slice_index_or};
 ghost use Rattle.daachorse_core.specs.Outputs.{number};
@@ -22,13 +19,10 @@ use std::num::NonZeroU32;
 /// An element of a double array over characters, in 16 bytes.
 ///
 /// A new element is vacant: it has no base and no output, and its check and its link are the dead
-/// state, 1.
-///
-/// The layout is that of Kanda, Akabe and Oda (arXiv 2207.13870). `daachorse_part_tests` sets and
-/// reads each part.
+/// state, 1. The layout is that of Kanda, Akabe and Oda (arXiv 2207.13870).
 #[derive(Clone, Copy, Debug, PartialEq, Eq, Hash)]
 pub struct State {
-    // 0 stands for none, since an `Option<NonZeroU32>` would take twice the bytes.
+    // 0 stands for none: an `Option<NonZeroU32>` would take twice the bytes.
     base: u32,
     check: u32,
     fail: u32,
@@ -50,8 +44,7 @@ impl Default for State {
 }
 
 impl State {
-    /// What leads, by exclusive or with a character's code, to the element of that character's
-    /// child.
+    /// The base. Its exclusive or with a character's code is the element of that character's child.
     #[inline(always)]
     pub fn base(&self) -> Option<NonZeroU32>
         ensures { number result ≡ base_in self.now }
@@ -127,10 +120,8 @@ impl State {
         self.output_pos = position.map_or(0, NonZeroU32::get);
     }
 
-    /// The index of the element to which a code leads from this one, the element at an index, if
-    /// there is one.
-    ///
-    /// It reads one other element at most.
+    /// The index of the element that a code leads to from this one, which is at `index`; `None` if
+    /// there is none. It reads at most one other element.
     #[inline(always)]
     pub fn child(&self, index: u32, code: u32, states: &[State]) -> Option<u32>
         ensures { result ≡ child_by (length states.now) (λ j. check_in (slice_index_or states.now j vacant)) index (base_in self.now) code }
@@ -139,9 +130,7 @@ impl State {
         Some(child)
     }
 
-    /// The index of that child and the position of its first output, both off the child's one element.
-    ///
-    /// It reads one other element at most.
+    /// As [`Self::child`], with the position of that element's first output.
     #[inline(always)]
     pub fn child_and_output(
         &self,

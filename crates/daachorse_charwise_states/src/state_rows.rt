@@ -1,7 +1,4 @@
 //! Rows of the states near the root.
-//!
-//! The layers above may rely on [`States::rows`] being right for the states as searches with rows see them
-//! ([`ForRows`]), of either kind, and on the states near the root having rows.
 
 ghost use Rattle.std.specs.Prelude.{◌≡◌, ◌≤◌, false, length, true, IfOk, IfSome, IfErr};
 ghost use Rattle.daachorse_core.specs.Refusals.{IsOutOfMemory};
@@ -20,19 +17,18 @@ use daachorse_rows::rows::Rows;
 use std::alloc::Allocator;
 
 impl<V: Copy, A: Allocator + Copy> States<V, A> {
-    /// Rows of the states near the root, with the ASCII characters of the patterns and the others that are
-    /// among their 510 most frequent ones.
+    /// Rows of the states near the root; `None` if there is no room for those that must have one.
     ///
-    /// Each state has one whose text has at most two characters, all among these, and as many others as
-    /// there is room for. Where those alone are more than there is room for, the answer is `None`; 196 rows
-    /// always fit. Where there are no more states, and no more characters, each has a row, and a standard
-    /// search takes one look for each character.
+    /// Rows have slots for the ASCII characters of the patterns and the others among their 510 most
+    /// frequent ones. Each state whose text has at most two characters, all with slots, has a row,
+    /// and so have as many others as there is room for; 196 rows always fit. If every state has a
+    /// row and every character a slot, a standard search takes one look for each character.
     ///
-    /// They take at most 252,672 bytes of slots, two bytes for each element, and a table of 1,276 bytes.
+    /// Rows take at most 252,672 bytes of slots, two bytes for each element, and a table of 1,276
+    /// bytes.
     ///
     /// # Errors
-    ///
-    /// An allocation failed.
+    /// Out of memory.
     pub fn rows(&self, alloc: A) -> Result<Option<Rows<A>>>
         ensures right { IfOk result (λ rows. IfSome rows (HasRows self.now)) }
         ensures covered { IfOk result (λ rows. IfSome rows (CoversNear self.now)) }
@@ -56,7 +52,7 @@ impl<V: Copy, A: Allocator + Copy> States<V, A> {
         }
     }
 
-    /// The labels of characters that stand in rows, in order.
+    /// The labels of the characters that have slots, in order.
     fn row_labels(&self, alloc: A) -> Result<Vec<u32, A>>
         ensures few { IfOk result (λ v. length v.items ≤ 638) }
         ensures all { IfOk result (λ v. AreLabels (content self.now) (stands_for self.now) v.items) }
@@ -69,7 +65,7 @@ impl<V: Copy, A: Allocator + Copy> States<V, A> {
     }
 }
 
-/// The labels that may stand in rows and that some character with a code has, in order.
+/// The labels that may have slots and belong to a character with a code, in order.
 fn list_used<V: Copy, A: Allocator + Copy>(
     alloc: A,
     elements: &Elements<'_, V, A>,

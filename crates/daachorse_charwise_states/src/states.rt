@@ -1,7 +1,4 @@
 //! The states of an automaton over characters, as they are kept.
-//!
-//! The layers above may rely on the parts being valid, and on what is built holding just the
-//! dictionary that it was built for.
 
 ghost use Rattle.std.specs.Prelude.{◌≡◌, ◌≢◌, ◌<◌, ◌≤◌, ◌^◌, ℕ, List, length, IfOk, IfErr};
 ghost use Rattle.daachorse_core.specs.declared.errors.Limit.TheVariants.{NumElements};
@@ -35,10 +32,8 @@ use std::alloc::{Allocator, Global};
 use std::hash::{Hash, Hasher};
 use std::marker::Model;
 
-/// The states and the outputs of an automaton over characters, with values of type `V`.
-///
-/// The codes of the characters and the outputs stand in lists of their own. `daachorse_tests` looks
-/// at states by a view of them.
+/// The states and the outputs of an automaton over characters, with values of type `V`. The codes
+/// of the characters and the outputs are lists of their own.
 #[derive(Drop)]
 pub struct States<V: Copy, A: Allocator = Global> {
     kind: MatchKind,
@@ -77,10 +72,9 @@ impl<V: Copy, A: Allocator + Copy> States<V, A> {
     /// where the states stand, and nothing else.
     ///
     /// # Errors
-    ///
-    /// [`Limit::NumElements`](daachorse_core::errors::Limit::NumElements), which comes only where
-    /// more texts begin a longer pattern than there are blocks but one in 4,294,967,296 elements
-    /// less a block, and out of memory.
+    /// [`Limit::NumElements`](daachorse_core::errors::Limit::NumElements), only if more than
+    /// 4,294,967,296 / b - 2 texts begin a longer pattern, for blocks of b elements; or out of
+    /// memory.
     #[inline(always)]
     pub fn build(
         alloc: A,
@@ -114,7 +108,7 @@ impl<V: Copy, A: Allocator + Copy> States<V, A> {
 }
 
 impl<V: Copy, A: Allocator> States<V, A> {
-    /// The searches that the automaton is for.
+    /// The kind of match that the automaton finds.
     #[inline(always)]
     pub fn kind(&self) -> MatchKind
         ensures { result ≡ self.now.kind }
@@ -122,7 +116,7 @@ impl<V: Copy, A: Allocator> States<V, A> {
         self.kind
     }
 
-    /// The number of elements, those included that are no state.
+    /// The number of elements, those that hold no state included.
     #[inline(always)]
     pub fn num_elements(&self) -> usize
         ensures all { result ≡ count self.now }
@@ -131,7 +125,7 @@ impl<V: Copy, A: Allocator> States<V, A> {
         self.states.len()
     }
 
-    /// How many texts begin a pattern, the empty one among them.
+    /// The number of texts that begin a pattern, the empty one included.
     #[inline(always)]
     pub fn num_states(&self) -> u32
         ensures reached { PassesAt (is_reached (child self.now)) result }
@@ -148,7 +142,7 @@ impl<V: Copy, A: Allocator> States<V, A> {
         &self.mapper
     }
 
-    /// What the standard searches see.
+    /// What standard searches see.
     #[inline(always)]
     pub fn standard(&self) -> Standard<'_, V>
         requires { self.now.kind ≡ Standard }
@@ -157,7 +151,7 @@ impl<V: Copy, A: Allocator> States<V, A> {
         self.view()
     }
 
-    /// What the leftmost searches see.
+    /// What leftmost searches see.
     #[inline(always)]
     #[tactic(auto, using(daachorse_array::proofs::DeadLaws::leftmost_kind))]
     pub fn leftmost(&self) -> Leftmost<'_, V>
@@ -185,10 +179,6 @@ impl<V: Copy, A: Allocator> States<V, A> {
 
 impl<V: Copy, A: Allocator + Copy> States<V, A> {
     /// The elements, with the character of each code.
-    ///
-    /// # Errors
-    ///
-    /// An allocation failed.
     pub(crate) fn elements(&self, alloc: A) -> Result<Elements<'_, V, A>>
         ensures parts { IfOk result (λ elements. elements.parts ≡ self.entry.now) }
         ensures lettered { IfOk result (λ elements. IsLettered elements) }
@@ -209,8 +199,7 @@ impl<V: Copy, A: Allocator + Copy> States<V, A> {
     /// The same states, in memory of their own.
     ///
     /// # Errors
-    ///
-    /// An allocation failed.
+    /// Out of memory.
     pub fn clone(&self) -> Result<Self>
         ensures same { IfOk result (λ s. s ≡ self.now) }
         ensures err { IfErr result IsOutOfMemory }
@@ -227,7 +216,7 @@ impl<V: Copy, A: Allocator + Copy> States<V, A> {
     }
 }
 
-/// States are equal where all that they store is.
+/// States are equal if all that they store is.
 impl<V: Copy + PartialEq, A: Allocator> PartialEq for States<V, A> {
     ghost use Rattle.daachorse_charwise_states.specs.Equality.{parts_eq, parts_per};
 

@@ -1,6 +1,4 @@
-//! The string of characters, as a key is given.
-//!
-//! The layers above may rely on the string having just these characters.
+//! Strings made of characters.
 
 ghost use Rattle.std.specs.Prelude.{◌≡◌, length, IfOk, IfErr};
 ghost use Rattle.std.specs.Str.{chars, encode_utf8_all};
@@ -10,11 +8,7 @@ ghost use Rattle.daachorse_core.specs.Refusals.{IsOutOfMemory};
 use daachorse_core::errors::Result;
 use std::alloc::Allocator;
 
-/// Makes the text of these characters.
-///
-/// # Errors
-///
-/// An allocation failed.
+/// The string of these characters.
 pub(crate) fn text_of<A: Allocator>(alloc: A, characters: &[char]) -> Result<String<A>>
     ensures ok { IfOk result (λ text. chars (string_bytes text) ≡ characters.now) }
     ensures err { IfErr result IsOutOfMemory }
@@ -26,7 +20,7 @@ pub(crate) fn text_of<A: Allocator>(alloc: A, characters: &[char]) -> Result<Str
     Ok(text)
 }
 
-/// How many bytes the text of these characters takes.
+/// How many bytes the string of these characters takes.
 fn num_bytes(characters: &[char]) -> usize
     ensures { result ≡ length (encode_utf8_all characters.now) }
 {

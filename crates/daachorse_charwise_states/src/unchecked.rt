@@ -1,8 +1,8 @@
-//! Lists that were read from any bytes, and whether they are an automaton's.
+//! Whether lists read from untrusted bytes are an automaton's.
 //!
-//! The layers above may rely on two answers that together say yes exactly where the parts are valid: [`are_grouped`]
-//! says whether elements may be looked at by their codes, and then [`Elements::are_valid`] whether the rest is right.
-//! Either takes memory and time linear in the lists.
+//! [`are_grouped`] says whether the elements may be accessed by their codes, and
+//! [`Elements::are_valid`] then whether the rest is right. Both take time and memory linear in the
+//! lists.
 
 ghost use Rattle.std.specs.Prelude.{◌≡◌, ◌<◌, true, false, length, slice_index_or, IfOk, IfErr};
 ghost use Rattle.daachorse_core.specs.Refusals.{IsOutOfMemory};
@@ -52,14 +52,10 @@ fn are_bases(states: &[State]) -> bool
     true
 }
 
-/// Whether the children of these elements may be looked at by the codes of a mapper.
+/// Whether the elements may be accessed by the codes of a mapper.
 ///
-/// The codes come last: in whole blocks the size of the alphabet is at most the number of elements, so that they
-/// take no more memory than the elements.
-///
-/// # Errors
-///
-/// An allocation failed.
+/// The codes are checked last: in whole blocks the alphabet is no larger than the number of
+/// elements, so that the check takes no more memory than these.
 pub(crate) fn are_grouped<A: Allocator + Copy>(
     alloc: A,
     states: &[State],
@@ -83,10 +79,6 @@ pub(crate) fn are_grouped<A: Allocator + Copy>(
 
 impl<'a, V: Copy, A: Allocator + Copy> Elements<'a, V, A> {
     /// Whether the parts are an automaton's.
-    ///
-    /// # Errors
-    ///
-    /// An allocation failed.
     pub(crate) fn are_valid(&self, alloc: A) -> Result<bool>
         requires { IsGrouped self.now.parts.coding self.now.parts.states }
         ensures yes { IfOk result (λ valid. valid ≡ true → IsValid self.now.parts) }

@@ -1,7 +1,4 @@
 //! What a search sees of the states.
-//!
-//! The layers above may rely on a [`View`] being the automaton of its parts, on `turn` following no
-//! link and counting one turn, and on no call taking memory.
 
 ghost use Rattle.std.specs.Prelude.{◌≡◌, ◌<◌, ℕ, Some};
 ghost use Rattle.daachorse_charwise_states.specs.Parts.{char_code};
@@ -17,10 +14,10 @@ use std::alloc::Allocator;
 use std::marker::{Model, PhantomData};
 use std::num::NonZeroU32;
 
-/// The states as the standard searches see them.
+/// The states as standard searches see them.
 pub type Standard<'a, V> = View<'a, V, ForStandard>;
 
-/// The states as the leftmost searches see them.
+/// The states as leftmost searches see them.
 pub type Leftmost<'a, V> = View<'a, V, ForLeftmost>;
 
 /// The states as the searches `S` see them.
@@ -30,9 +27,9 @@ pub struct View<'a, V: Copy, S: Searches> {
     // The code of each code point.
     table: &'a [u32],
     outputs: &'a [Output<V>],
-    // The position of the root's first output, which is read once, ahead of the search.
+    // The position of the root's first output, read once ahead of the search.
     root_output: Option<NonZeroU32>,
-    // For contracts alone, and so are the two numbers.
+    // For contracts alone, as are the two numbers.
     kind: MatchKind,
     alphabet_size: u32,
     num_states: u32,
@@ -52,7 +49,7 @@ impl<'a, V: Copy, S: Searches> Model for View<'a, V, S> {
 }
 
 impl<'a, V: Copy, S: Searches> View<'a, V, S> {
-    /// The automaton of these elements, with the codes of a mapper.
+    /// A view of these elements with the codes of a mapper.
     #[inline(always)]
     pub(crate) fn new<A: Allocator>(
         kind: MatchKind,
@@ -77,7 +74,7 @@ impl<'a, V: Copy, S: Searches> View<'a, V, S> {
         }
     }
 
-    /// Does nothing, and promises that no code is above 2,147,483,647.
+    /// Does nothing. Its contract says that each code is at most 2,147,483,647.
     #[inline(always)]
     pub(crate) fn codes_fit(&self)
         ensures { (unit code : ℕ) → char_code self.now.coding unit ≡ Some code → code < 2147483648 }
@@ -141,7 +138,7 @@ impl<'a, V: Copy, S: Searches> Automaton<V> for View<'a, V, S> {
             if self.root_output.is_none() {
                 return Look::Next(ROOT_STATE_IDX, None);
             }
-            // It is read as a child's is, so that both ways meet in one number, which is tested once.
+            // Read as a child's is, so that both ways meet in one number, which is tested once.
             return Look::Next(ROOT_STATE_IDX, element.output_pos());
         }
         let link = element.fail();
@@ -153,7 +150,7 @@ impl<'a, V: Copy, S: Searches> Automaton<V> for View<'a, V, S> {
 
     #[inline(always)]
     fn output_pos(&self, state: u32) -> Option<NonZeroU32> {
-        // Of the root it is known, which a loop that asks for the root's alone makes use of.
+        // Known for the root, which speeds up a loop that asks for the root's alone.
         if state == ROOT_STATE_IDX {
             return self.root_output;
         }

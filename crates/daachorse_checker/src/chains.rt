@@ -1,7 +1,4 @@
-//! The chains of outputs of the elements at places, and the sizes of their texts.
-//!
-//! The layers above may rely on [`chain_holds`] telling whether an element's chain is the right one, in one
-//! step, where the runs of the outputs are at hand.
+//! The output chains of the elements that have places, and the sizes of their texts.
 
 ghost use Rattle.std.specs.Prelude.{◌≡◌, ◌<◌, ◌≤◌, ◌^◌, ℕ, Some, true, false, length, slice_index, IfOk, IfErr};
 ghost use Rattle.daachorse_core.specs.Refusals.{IsOutOfMemory};
@@ -18,11 +15,10 @@ use daachorse_core::errors::Result;
 use daachorse_core::{DEAD_STATE_IDX, Output};
 use std::alloc::Allocator;
 
-/// Whether each place is no other's parent.
+/// Whether each place has no child.
 ///
 /// # Errors
-///
-/// An allocation failed.
+/// Out of memory.
 pub fn leaves<A: Allocator>(alloc: A, parents: &[u32]) -> Result<Vec<bool, A>>
     requires some { 0 < length parents.now }
     requires earlier { (m : ℕ) → 0 < m → m < length parents.now → slice_index parents.now m < m }
@@ -38,11 +34,10 @@ pub fn leaves<A: Allocator>(alloc: A, parents: &[u32]) -> Result<Vec<bool, A>>
     Ok(leaves)
 }
 
-/// Of each place how many bytes its text takes.
+/// The size of each place's text, in bytes.
 ///
 /// # Errors
-///
-/// An allocation failed.
+/// Out of memory.
 pub fn sizes<E: Array, A: Allocator + Copy>(
     alloc: A,
     array: &E,
@@ -68,7 +63,8 @@ pub fn sizes<E: Array, A: Allocator + Copy>(
     Ok(sizes)
 }
 
-/// Whether the chain of an element, whose text has `size` bytes, is right.
+/// Whether the chain of an element whose text has `size` bytes is right. A leaf needs an output of
+/// its own.
 pub fn chain_holds<V: Copy, E: Array>(
     array: &E,
     outputs: &[Output<V>],

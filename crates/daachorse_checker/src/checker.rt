@@ -1,7 +1,4 @@
-//! The check of an array: the places of its elements, the chains of outputs, and the links, in turn.
-//!
-//! The layers above may rely on the answer being yes exactly where the array is a right machine to whose
-//! elements the given number of texts lead.
+//! The check of an array: its places, then its output chains, then its links.
 
 ghost use Rattle.std.specs.Prelude.{◌≡◌, ◌≢◌, ◌<◌, ◌≤◌, ◌^◌, ℕ, Some, true, false, cond, length, slice_index, slice_index_or, IfOk, IfErr};
 ghost use Rattle.daachorse_core.specs.Outputs.{ParentsFall};
@@ -27,7 +24,7 @@ use daachorse_core::Output;
 use daachorse_core::errors::Result;
 use std::alloc::Allocator;
 
-/// Whether the chain of each element that has a place is right.
+/// Whether the chain of each element with a place is right.
 fn chains_hold<V: Copy, E: Array, A: Allocator>(
     array: &E,
     outputs: &[Output<V>],
@@ -64,12 +61,8 @@ fn chains_hold<V: Copy, E: Array, A: Allocator>(
     true
 }
 
-/// Whether each place stops: in a leftmost machine where its element has an output of its own, else
-/// nowhere.
-///
-/// # Errors
-///
-/// An allocation failed.
+/// Whether each place stops: in a leftmost machine if its element has outputs of its own, else
+/// never.
 fn stops<V: Copy, E: Array, A: Allocator + Copy>(
     alloc: A,
     array: &E,
@@ -101,11 +94,7 @@ fn stops<V: Copy, E: Array, A: Allocator + Copy>(
     Ok(stops)
 }
 
-/// Whether the link of each element that has a place is right.
-///
-/// # Errors
-///
-/// An allocation failed.
+/// Whether the link of each element with a place is right.
 fn links_hold<V: Copy, E: Array, A: Allocator + Copy>(
     alloc: A,
     array: &E,
@@ -141,12 +130,11 @@ fn links_hold<V: Copy, E: Array, A: Allocator + Copy>(
     Ok(right)
 }
 
-/// Whether an array with these outputs is a right machine, leftmost or standard, to whose elements so
-/// many texts lead.
+/// Whether an array with these outputs is a right machine, leftmost or standard, to whose elements
+/// `num_states` texts lead.
 ///
 /// # Errors
-///
-/// An allocation failed.
+/// Out of memory.
 pub fn is_right<V: Copy, E: Array, A: Allocator + Copy>(
     alloc: A,
     array: &E,
@@ -184,12 +172,11 @@ pub fn is_right<V: Copy, E: Array, A: Allocator + Copy>(
     Ok(right)
 }
 
-/// Whether an array with these outputs is sound: whether all that it names is there, and it is a right
-/// machine, leftmost or standard, to whose elements `num_states` texts lead.
+/// Whether an array with these outputs is sound: its links and positions are in range, each
+/// output's parent comes before it, and [`is_right`] returns true.
 ///
 /// # Errors
-///
-/// An allocation failed.
+/// Out of memory.
 pub fn is_sound<V: Copy, E: Array, A: Allocator + Copy>(
     alloc: A,
     array: &E,

@@ -1,8 +1,4 @@
-//! Whether a filter passes at each key of an array.
-//!
-//! The layers above may rely on the answer being right of any filter, in time and memory linear in the
-//! elements: each reads its unit behind what its parent has read, and a window keeps no more than the
-//! filter looks at.
+//! Whether a prefilter passes at each key of an array.
 
 ghost use Rattle.std.specs.Prelude.{◌≡◌, ◌++◌, ◌<◌, ℕ, List, [], All, Some, true, false, length, slice_index_or, IfOk, IfErr, IfSome, IfNone};
 ghost use Rattle.daachorse_core.specs.Refusals.{IsOutOfMemory};
@@ -18,14 +14,13 @@ use daachorse_core::errors::Result;
 use daachorse_prefilter::prefilter::{Prefilter, Window};
 use std::alloc::Allocator;
 
-/// Whether a filter passes at the beginning of each key of a tree.
+/// Whether a prefilter passes at the beginning of each key of a tree.
 ///
-/// It goes over levels: a level is the elements to which texts of one length lead. Where the filter passes at
-/// the beginning of a text it passes at that of each longer one, so that nothing behind is looked at.
+/// The tree is read level by level, in time and memory linear in its elements. If the prefilter
+/// passes at the beginning of a text it passes at every longer one, so nothing below is read.
 ///
 /// # Errors
-///
-/// An allocation failed.
+/// Out of memory.
 pub fn passes_all<E: Array, A: Allocator + Copy, B: Allocator>(
     alloc: A,
     array: &E,
@@ -54,12 +49,8 @@ pub fn passes_all<E: Array, A: Allocator + Copy, B: Allocator>(
     Ok(true)
 }
 
-/// The next level: the children of the elements at whose texts the filter does not pass, with their
-/// windows; none where one of these elements is a key.
-///
-/// # Errors
-///
-/// An allocation failed.
+/// The children of the elements at whose texts the prefilter does not pass, with their windows;
+/// `None` if one of these elements is a key.
 fn next_level<E: Array, A: Allocator + Copy, B: Allocator>(
     alloc: A,
     array: &E,
@@ -92,11 +83,7 @@ fn next_level<E: Array, A: Allocator + Copy, B: Allocator>(
     Ok(Some(next))
 }
 
-/// Puts the children of an element behind others, with their windows.
-///
-/// # Errors
-///
-/// An allocation failed.
+/// Appends the children of an element, with their windows.
 fn push_children<E: Array, A: Allocator, B: Allocator>(
     array: &E,
     groups: &Siblings<A>,
@@ -123,7 +110,7 @@ fn push_children<E: Array, A: Allocator, B: Allocator>(
     Ok(())
 }
 
-/// The window of a filter after the unit that leads to an element.
+/// The window of a prefilter after the unit that leads to an element.
 fn read<E: Array, B: Allocator>(
     array: &E,
     element: usize,

@@ -1,7 +1,4 @@
-//! Whether the texts of an array are folded: no capital letter of ASCII leads to an element.
-//!
-//! The layers above may rely on the answer being right of any tree, in time and memory linear in the
-//! elements.
+//! Whether an array's texts are folded: no ASCII capital letter leads to an element.
 
 ghost use Rattle.std.specs.Prelude.{◌≡◌, ◌<◌, ◌^◌, ℕ, Some, true, false, length, slice_index, IfOk, IfErr};
 ghost use Rattle.daachorse_core.specs.Refusals.{IsOutOfMemory};
@@ -16,11 +13,10 @@ use daachorse_array::array::Array;
 use daachorse_core::errors::Result;
 use std::alloc::Allocator;
 
-/// Whether each unit that leads from an element of a tree is folded.
+/// Whether no unit of a tree is an ASCII capital letter.
 ///
 /// # Errors
-///
-/// An allocation failed.
+/// Out of memory.
 pub fn is_folded<E: Array, A: Allocator + Copy>(alloc: A, array: &E) -> Result<bool>
     requires inside { (i c j : ℕ) → E.child array.now i c ≡ Some j → (j < E.count array.now) × (c < E.units array.now) }
     requires tell { TellChildren (E.child array.now) (E.group array.now) (E.edge array.now) (E.count array.now) }
@@ -37,7 +33,7 @@ pub fn is_folded<E: Array, A: Allocator + Copy>(alloc: A, array: &E) -> Result<b
     Ok(folded)
 }
 
-/// The same, where the elements have places. The array is named in the contract alone.
+/// [`is_folded`], for an array with these places. Only the contract names the array.
 fn has_folded_labels<E: Array, A: Allocator>(_array: &E, places: &Places<A>) -> bool
     requires tell { TellChildren (E.child _array.now) (E.group _array.now) (E.edge _array.now) (E.count _array.now) }
     requires places { ArePlaces (E.child _array.now) (λ j. unit_of (E.edge _array.now j)) (E.count _array.now) places.now.order.items places.now.parents.items places.now.labels.items places.now.marks.items }
@@ -47,7 +43,7 @@ fn has_folded_labels<E: Array, A: Allocator>(_array: &E, places: &Places<A>) -> 
     are_folded(&places.labels)
 }
 
-/// Whether each label but the first, which is no unit, is folded.
+/// Whether no label but the first, which is no unit, is an ASCII capital letter.
 fn are_folded(labels: &[u32]) -> bool
     ensures yes { result ≡ true → (m : ℕ) → 0 < m → m < length labels.now → folded_unit (slice_index labels.now m) ≡ slice_index labels.now m }
     ensures no { result ≡ false → IsUnfoldedAt labels.now }

@@ -1,8 +1,6 @@
-//! The check of an array that was read from any bytes: whether it is a right pattern matching
-//! machine.
+//! The check of an untrusted array: whether it is a right pattern matching machine.
 //!
-//! The layers above may rely on the answer being yes exactly where the array is one, in time and memory
-//! linear in its elements, its outputs and its units, whoever wrote it.
+//! Time and memory are linear in its elements, its outputs and its units.
 #![tactic(auto)]
 
 pub mod chains;

@@ -1,7 +1,4 @@
 //! The links of an array as links between the places of its elements.
-//!
-//! The layers above may rely on each link being told: where it leads, or that it leads to no element
-//! that has a place.
 
 ghost use Rattle.std.specs.Prelude.{◌≡◌, ◌<◌, ◌^◌, ℕ, Some, length, slice_index, IfOk, IfErr, IfSome, IfNone};
 ghost use Rattle.daachorse_core.specs.Refusals.{IsOutOfMemory};
@@ -15,7 +12,8 @@ use daachorse_core::errors::Result;
 use daachorse_core::{DEAD_STATE_IDX, ROOT_STATE_IDX};
 use std::alloc::Allocator;
 
-/// The place of an element's link, the number of places for a dead one; none where it leads nowhere.
+/// The place of an element's link, or the number of places for a dead one; `None` if it leads to no
+/// place, or is dead in a standard machine.
 fn link_place<E: Array, A: Allocator>(
     array: &E,
     places: &Places<A>,
@@ -46,11 +44,10 @@ fn link_place<E: Array, A: Allocator>(
     Some(place)
 }
 
-/// The places of all links; none where one leads nowhere. The root's is not read.
+/// The places of all links; `None` if one has no place. The root's link is not read.
 ///
 /// # Errors
-///
-/// An allocation failed.
+/// Out of memory.
 pub fn link_places<E: Array, A: Allocator + Copy>(
     alloc: A,
     array: &E,

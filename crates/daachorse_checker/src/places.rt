@@ -1,8 +1,6 @@
-//! The elements of an array that texts lead to, at places: breadth first, each behind its parent.
+//! The elements of an array that texts lead to, in breadth-first order.
 //!
-//! The layers above may rely on there being places exactly where no text leads to the dead element
-//! and no two texts lead to one element. The walk marks each element that it comes to, and ends where it
-//! comes to one again, so that it is linear in the elements.
+//! The walk ends at the first element that it comes to twice, so that it is linear in the elements.
 
 ghost use Rattle.std.specs.Prelude.{◌≡◌, ◌+◌, ◌<◌, ◌^◌, ℕ, [], true, false, length, slice_index_or, IfOk, IfErr, IfSome, IfNone};
 ghost use Rattle.daachorse_core.specs.Refusals.{IsOutOfMemory};
@@ -24,16 +22,15 @@ pub struct Places<A: Allocator = Global> {
     pub parents: Vec<u32, A>,
     /// The unit that leads to each from its parent; 0 for the root.
     pub labels: Vec<u32, A>,
-    /// Of every element of the array its place; 0 where no text leads to it.
+    /// For every element of the array its place; 0 if no text leads to it.
     pub marks: Vec<u32, A>,
 }
 
 impl<A: Allocator + Copy> Places<A> {
-    /// The places of an array; none where it is no tree.
+    /// The places of an array; `None` if two texts lead to one element, or one to the dead element.
     ///
     /// # Errors
-    ///
-    /// An allocation failed.
+    /// Out of memory.
     #[inline(always)]
     pub fn new<E: Array>(alloc: A, array: &E) -> Result<Option<Self>>
         requires inside { (i c j : ℕ) → E.child array.now i c ≡ Some j → (j < E.count array.now) × (c < E.units array.now) }
@@ -65,8 +62,8 @@ impl<A: Allocator + Copy> Places<A> {
         Ok(Some(places))
     }
 
-    /// Gives the children of the element at a place places of their own; false where one has a place
-    /// already, or is dead.
+    /// Gives places to the children of the element at a place; false if one has a place already, or
+    /// is the root or the dead element.
     #[inline(always)]
     fn expand<E: Array>(&mut self, array: &E, groups: &Siblings<A>, place: u32) -> Result<bool>
         requires inside { (i c j : ℕ) → E.child array.now i c ≡ Some j → (j < E.count array.now) × (c < E.units array.now) }

@@ -1,13 +1,12 @@
-//! The ranges of an array: whether each link is an element, and each position one of an output.
-//!
-//! The layers above may rely on every element being looked at, those included that no text leads to.
+//! Whether the links and the output positions of an array are in range.
 
 ghost use Rattle.std.specs.Prelude.{◌≡◌, ◌<◌, true, false};
 ghost use Rattle.daachorse_checker.specs.Sound.{IsInRange};
 
 use daachorse_array::array::Array;
 
-/// Whether each link is an element, and each position is that of one of `num_outputs` outputs, or none.
+/// Whether each link is an element and each position is at most `num_outputs`. Elements that no
+/// text leads to count too.
 pub fn ranges_hold<E: Array>(array: &E, num_outputs: usize) -> bool
     ensures yes { result ≡ true → IsInRange (E.fail array.now) (E.first array.now) (E.count array.now) num_outputs }
     ensures no { result ≡ false → IsInRange (E.fail array.now) (E.first array.now) (E.count array.now) num_outputs → ⊥ }

@@ -1,7 +1,7 @@
-//! Runs: where a chain of outputs goes on behind those of one length.
+//! Runs: where a chain of outputs goes on after those of one length.
 //!
-//! The layers above may rely on one pass over the outputs telling it of each, so that the own
-//! outputs of an element are passed in one step, however many elements share them.
+//! One pass over the outputs finds all runs. An element's own outputs are then skipped in one step,
+//! however many elements share them.
 
 ghost use Rattle.std.specs.Prelude.{◌≡◌, ◌<◌, ◌≤◌, ◌^◌, true, false, Some, length, slice_get, IfOk, IfErr};
 ghost use Rattle.daachorse_core.specs.Outputs.{ParentsFall, parent_of};
@@ -14,7 +14,7 @@ use daachorse_core::errors::Result;
 use std::alloc::Allocator;
 use std::num::NonZeroU32;
 
-/// The output of a number.
+/// The output at an index.
 fn output_at<V: Copy>(outputs: &[Output<V>], number: usize) -> Output<V>
     requires { number < length outputs.now }
     ensures { slice_get outputs.now number ≡ Some result }
@@ -22,14 +22,14 @@ fn output_at<V: Copy>(outputs: &[Output<V>], number: usize) -> Output<V>
     outputs[number]
 }
 
-/// The position of the next output of a chain; 0 where it ends.
+/// The position of the next output of a chain; 0 at its end.
 fn parent<V: Copy>(output: Output<V>) -> u32
     ensures { result ≡ parent_of output }
 {
     output.parent().map_or(0, NonZeroU32::get)
 }
 
-/// Whether the next output of each stands before it.
+/// Whether each output's parent comes before it.
 pub fn parents_fall<V: Copy>(outputs: &[Output<V>]) -> bool
     requires few { length outputs.now < 2 ^ 32 }
     ensures yes { result ≡ true → ParentsFall outputs.now }
@@ -46,7 +46,7 @@ pub fn parents_fall<V: Copy>(outputs: &[Output<V>]) -> bool
     true
 }
 
-/// Where the chain from a position goes on behind the outputs of one length.
+/// The position where the chain from `position` goes on after its outputs of length `size`.
 pub fn rest_at<V: Copy>(outputs: &[Output<V>], runs: &[u32], size: usize, position: u32) -> u32
     requires runs { AreRuns outputs.now runs.now }
     requires inside { position ≤ length runs.now }
@@ -64,7 +64,7 @@ pub fn rest_at<V: Copy>(outputs: &[Output<V>], runs: &[u32], size: usize, positi
     position
 }
 
-/// Whether the chain from a position begins with an output of one length.
+/// Whether the chain from `position` begins with an output of length `size`.
 pub fn has_own<V: Copy>(outputs: &[Output<V>], size: usize, position: u32) -> bool
     requires { position ≤ length outputs.now }
     ensures { result ≡ has_values (own_from outputs.now position size position).0 }
@@ -76,11 +76,10 @@ pub fn has_own<V: Copy>(outputs: &[Output<V>], size: usize, position: u32) -> bo
     output.length() as usize == size
 }
 
-/// Of each output where its chain goes on behind those of its length.
+/// For each output the position where its chain goes on after the outputs of its length.
 ///
 /// # Errors
-///
-/// An allocation failed.
+/// Out of memory.
 pub fn runs<V: Copy, A: Allocator>(alloc: A, outputs: &[Output<V>]) -> Result<Vec<u32, A>>
     requires few { length outputs.now < 2 ^ 32 }
     requires fall { ParentsFall outputs.now }

@@ -1,7 +1,5 @@
-//! The check of links by following them, from the link of each place's parent on.
-//!
-//! [`Trie::has_links`] may rely on the answer being right where there is one, and on few steps being
-//! taken of all places together: where they are not enough, there is no answer.
+//! The check of links by following them, from the link of each place's parent on, in a limited
+//! number of steps.
 
 ghost use Rattle.std.specs.Prelude.{◌≡◌, ◌<◌, ◌≤◌, ◌^◌, length, slice_index, true, false, IfSome};
 ghost use Rattle.daachorse_array.specs.Places.{IsLabelled, HasLinks, LinksFall, AreStarts, child};
@@ -10,7 +8,7 @@ ghost use Rattle.daachorse_array.specs.Near.{pick, right};
 use crate::trie::Trie;
 use std::alloc::Allocator;
 
-/// How many steps may be taken a place.
+/// The number of steps allowed for each place, on average.
 const STEPS: usize = 32;
 
 impl<A: Allocator + Copy> Trie<A> {
@@ -31,7 +29,7 @@ impl<A: Allocator + Copy> Trie<A> {
         self.labels[m as usize] == label
     }
 
-    /// The child of place p by a label, 0 for none. It looks at the children of p in turn.
+    /// The child of place p by a label, 0 if there is none, by linear search.
     fn child(&self, starts: &[u32], p: u32, label: u32) -> u32
         requires trie { IsLabelled self.now.parents.items self.now.labels.items }
         requires few { length self.now.parents.items < 2 ^ 32 }
@@ -50,7 +48,7 @@ impl<A: Allocator + Copy> Trie<A> {
         0
     }
 
-    /// The link that place m has to have, where no more steps than are left lead to it.
+    /// The right link of place m; `None` if it takes more than `left` steps.
     fn followed(&self, starts: &[u32], m: u32, left: &mut usize) -> Option<u32>
         requires trie { IsLabelled self.now.parents.items self.now.labels.items }
         requires each { length self.now.fails.items ≡ length self.now.parents.items }
@@ -86,7 +84,7 @@ impl<A: Allocator + Copy> Trie<A> {
         Some(self.right_link(m, 0, self.root_value(below)))
     }
 
-    /// Whether each place has the right leftmost link; none where too many steps would tell.
+    /// Whether each place has the right leftmost link; `None` if the steps run out.
     pub(super) fn follows(&self, starts: &[u32]) -> Option<bool>
         requires trie { IsLabelled self.now.parents.items self.now.labels.items }
         requires each { length self.now.fails.items ≡ length self.now.parents.items }

@@ -1,8 +1,4 @@
-//! The written form of the states, with the option and the filter of the automaton.
-//!
-//! The layers above may rely on the bytes of [`States::serialize`] being the form of the parts, and
-//! on [`States::deserialize_unchecked`] giving back the parts whose form the bytes begin with.
-//! [`States::deserialize`] does so for any bytes, and refuses them exactly where they give no valid parts.
+//! The written form of the states, with the option and the prefilter of the automaton.
 
 ghost use Rattle.std.specs.Prelude.{◌≡◌, ◌⊎◌, ◌++◌, ◌-◌, ◌^◌, Bool, List, ℕ, Option, Some, true, false, min, IfOk, IfErr};
 ghost use Rattle.daachorse_core.specs.Refusals.{IsOutOfMemory};
@@ -25,7 +21,7 @@ use daachorse_serializer::mode::SearchMode;
 use daachorse_serializer::serializer::{Serializable, SerializableVec};
 use std::alloc::Allocator;
 
-/// The parts of an automaton as they were read. Nothing is known of what stands in them.
+/// The parts of an automaton as they were read, not yet checked.
 #[derive(Drop)]
 struct Lists<V: Copy, A: Allocator> {
     states: Vec<State, A>,
@@ -33,10 +29,9 @@ struct Lists<V: Copy, A: Allocator> {
     ending: Ending<V, Prefilter<A>, A>,
 }
 
-/// Reads parts, and returns them with the bytes behind them.
+/// Reads parts, and returns them with the bytes after them.
 ///
 /// # Errors
-///
 /// Bytes that give no parts, or out of memory.
 #[tactic(auto, unfolding(crate::specs::PartForms::take_parts))]
 fn read_lists<V: Serializable + Copy, A: Allocator + Copy>(
@@ -60,10 +55,6 @@ fn read_lists<V: Serializable + Copy, A: Allocator + Copy>(
 
 impl<V: Copy, A: Allocator + Copy> Lists<V, A> {
     /// Whether the lists are an automaton's.
-    ///
-    /// # Errors
-    ///
-    /// An allocation failed.
     fn is_valid(&self, alloc: A) -> Result<bool>
         requires { AreCounted (parts_in self.now).0 }
         ensures yes { IfOk result (λ valid. valid ≡ true → IsValid (parts_in self.now).0) }
@@ -87,12 +78,11 @@ impl<V: Copy, A: Allocator + Copy> Lists<V, A> {
 }
 
 impl<V: Serializable + Copy, A: Allocator> States<V, A> {
-    /// The written form of the states, of whether ASCII letters are found without regard to case, and
-    /// of a filter, if there is one.
+    /// The written form of the states, of whether ASCII case is ignored, and of the prefilter, if
+    /// there is one.
     ///
     /// # Errors
-    ///
-    /// An allocation failed.
+    /// Out of memory.
     pub fn serialize<B: Allocator>(
         &self,
         alloc: B,
@@ -110,8 +100,8 @@ impl<V: Serializable + Copy, A: Allocator> States<V, A> {
         Ok(bytes)
     }
 
-    /// How long the form is at most, in bytes, where no value takes more than [`VALUE_ROOM`], or `usize::MAX` where it
-    /// is more.
+    /// The greatest length of the form, in bytes, if no value takes more than [`VALUE_ROOM`];
+    /// capped at `usize::MAX`.
     fn room(&self, filter: &Option<Prefilter<A>>) -> usize
         ensures { result ≡ min (parts_most (min V.form_len VALUE_ROOM) self.now filter.now) (2 ^ 64 - 1) }
     {
@@ -141,7 +131,7 @@ impl<V: Serializable + Copy, A: Allocator> States<V, A> {
         write_ending(&self.outputs, mode, self.num_states, filter, dst)
     }
 
-    /// Does nothing, and promises that states in hand are those of an automaton.
+    /// Does nothing. Its contract says that the states are an automaton's.
     fn in_range(&self)
         ensures valid { IsValid self.now }
         ensures numbers { AreNumbers V.is_value self.now }
@@ -154,12 +144,13 @@ impl<V: Serializable + Copy, A: Allocator> States<V, A> {
 }
 
 impl<V: Serializable + Copy, A: Allocator + Copy> States<V, A> {
-    /// The states, the option and the filter whose written form the bytes begin with, and the bytes
-    /// behind it.
+    /// The states, the option and the prefilter that `src` begins with, and the bytes after them.
+    ///
+    /// # Conditions
+    /// `src` begins with the written form of an automaton.
     ///
     /// # Errors
-    ///
-    /// An allocation failed.
+    /// Out of memory.
     pub fn deserialize_unchecked(
         alloc: A,
         src: &[u8],
@@ -173,14 +164,12 @@ impl<V: Serializable + Copy, A: Allocator + Copy> States<V, A> {
         Ok((Self::of_lists(lists), rest))
     }
 
-    /// The states that the bytes begin with, whoever wrote them, with the option and the filter behind them, if there
-    /// is one, and the bytes that are left. Of the option and the filter nothing is known.
+    /// As [`Self::deserialize_unchecked`], for untrusted bytes. The states are checked, the option
+    /// and the prefilter are not.
     ///
     /// # Errors
-    ///
-    /// Bytes that give no valid parts, as
-    /// [`InvalidAutomaton`](daachorse_core::errors::DaachorseError::InvalidAutomaton) or by what is a value's own, or
-    /// out of memory.
+    /// [`InvalidAutomaton`](daachorse_core::errors::DaachorseError::InvalidAutomaton) if the bytes
+    /// give no valid parts, a value's own error, or out of memory.
     pub fn deserialize(alloc: A, src: &[u8]) -> Result<((Self, bool, Option<Prefilter<A>>), &[u8])>
         ensures given { IfOk result (λ r. take_parts V.taken src.now ≡ Some ((r.0.0, (r.0.1, r.0.2)), r.1.now)) }
         ensures valid { IfOk result (λ r. IsValid r.0.0) }
@@ -194,7 +183,7 @@ impl<V: Serializable + Copy, A: Allocator + Copy> States<V, A> {
         Ok((Self::of_lists(lists), rest))
     }
 
-    /// The states that these lists make up, the option and the filter.
+    /// The states of these lists, the option and the prefilter.
     fn of_lists(lists: Lists<V, A>) -> (Self, bool, Option<Prefilter<A>>)
         requires { IsValid (parts_in lists).0 }
         ensures states { result.0 ≡ (parts_in lists).0 }

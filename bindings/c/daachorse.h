@@ -57,7 +57,7 @@ enum daachorse_answer {
     DAACHORSE_EMPTY_HANDLE = 2,      /* the handle has no automaton */
     DAACHORSE_UNKNOWN_KIND = 3,      /* no kind has this number */
     DAACHORSE_WRONG_KIND = 4,        /* the search does not serve automata of this kind */
-    DAACHORSE_WRONG_PATTERNS = 5,    /* ends decrease or pass the bytes, or ends_len != values_len */
+    DAACHORSE_WRONG_PATTERNS = 5,    /* ends fall or pass the bytes, or ends_len != values_len */
     DAACHORSE_PATTERN_TOO_LONG = 6,  /* a pattern has more than 4294967295 bytes */
     DAACHORSE_TOO_MANY_STATES = 7,   /* the patterns have more than 4294967295 prefixes */
     DAACHORSE_TOO_MANY_PATTERNS = 8, /* there are more than 16777215 patterns */

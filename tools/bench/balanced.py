@@ -3,9 +3,10 @@
 
 Prints the ratio of each search, balanced over where functions begin, from the times in WORK/times
 of the links WORK/driver-1 and on. Our function and the Rust crate's each begin at a multiple of 32
-bytes or at 16 past one, which gives four cases. Of each case the median of its links is taken, and
-of the cases the mean, without those that no link has. A small loop may take half as long again if
-one of its jumps crosses or ends a line of 32 bytes, and where the linker puts a function is chance.
+bytes or at 16 past one, which gives four cases. The mean of the cases is printed, and then the
+median of each case's links. A case that no link has is left out of the mean. A small loop may take
+half as long again if one of its jumps crosses or ends a line of 32 bytes, and where the linker puts
+a function is chance.
 """
 import re
 import statistics

@@ -507,7 +507,7 @@ impl Automaton {
                 &mut written,
             )
         })?;
-        // SAFETY: the library wrote so many matches to the spare capacity.
+        // SAFETY: the library wrote so many matches to the spare capacity, and reads none of it.
         unsafe { found.set_len(found.len() + written) };
         Ok(())
     }

@@ -3,13 +3,13 @@
 #
 #     bindings/build.sh [--after-gate] [FOLDER]
 #
-# What is built lies in FOLDER, else in bindings/out: libdaachorse.so, the example in C, a test in C over the table
-# bindings/rows, which rows.py makes, and one that refuses each request for memory in turn.
+# The output goes to FOLDER, else to bindings/out: libdaachorse.so, the example in C, a test in C
+# over the table bindings/rows, which rows.py makes, and one that refuses each allocation in turn.
 #
-# It needs the Rattle kit (its command rt), which first proves what was not proved yet, and a C compiler, CC or
-# cc, with a linker that has --wrap. Where there is no valgrind, no python3 or no cargo that runs, it says so and
-# leaves out what needs it. With --after-gate, which .ci/run gives right behind rt ci, it takes the libraries that the
-# gate proved, and ends well where there is no C compiler, and where the compiler warns.
+# It needs the Rattle kit (its command rt), which first proves what is not proved yet, and a C
+# compiler, CC or cc, with a linker that has --wrap. Without valgrind, python3 or a cargo that runs,
+# it says so and skips what needs it. With --after-gate, which .ci/run passes right after rt ci, it
+# uses the libraries that the gate proved, and succeeds without a C compiler and after warnings.
 set -eu
 here=$(CDPATH= cd -- "$(dirname -- "$0")" && pwd)
 crate="$here/../crates/daachorse_c"

@@ -1,10 +1,10 @@
-"""Prints the table `rows`, which the tests in C, Python and Rust read: what each search finds by its definition, and which
-patterns an automaton holds.
+"""Prints the table `rows` for the tests in C, Python and Rust: what each search finds by its
+definition, and which patterns an automaton holds.
 
-A row is a search, the number of a kind, 1 where ASCII case is disregarded and else 0, the patterns in hexadecimal with commas
-between them, the haystack, the number of matches, and each match as its start, its end and its value. "-" is the empty text,
-and "none" no patterns. In place of a search stands "patterns" where the patterns of the automaton are listed, each as its text
-and its value with a colon between them; the haystack is then "-".
+A row is a search, the number of a kind, 1 if ASCII case is ignored, else 0, the patterns in
+hexadecimal, separated by commas, the haystack, the number of matches, and each match as
+START-END-VALUE. "-" is the empty text, and "none" no patterns. A row that lists patterns has
+"patterns" for the search, "-" for the haystack, and each pattern as TEXT:VALUE.
 """
 
 PATTERNS = [
@@ -20,7 +20,7 @@ PATTERNS = [
 ]
 HAYSTACKS = [b"", b"abcd", b"aaaa", b"a\x00\xff", b"ushers", b"abcdabcd", b"xabcx"]
 
-# With letters of both cases, with the bytes beside the letters, and with bytes that are letters in other codes than ASCII.
+# Letters of both cases, the bytes next to the letters, and bytes that are letters beyond ASCII.
 CASED_PATTERNS = [
     [b"Ab", b"aBCD", b"bc", b"CD"],
     [b"a", b"A", b"AA"],
@@ -30,7 +30,7 @@ CASED_PATTERNS = [
 ]
 CASED_HAYSTACKS = [b"", b"ABCD", b"aBcD", b"AaAa", b"@[`{zZ", b"\xe4\xc4 \xc3\xa4 k"]
 
-# Not in the order of their bytes, some of them equal, and some the beginning of others.
+# Not in byte order, some equal, and some a prefix of others.
 LISTED_PATTERNS = [
     [b"ab", b"b", b"", b"ab", b"a", b"abc", b"ab"],
     [b"\xff", b"\x00", b"\x7f\x80", b"\x80", b"\x7f", b"\x00\x00", b"\xff\x00"],
@@ -38,7 +38,7 @@ LISTED_PATTERNS = [
 
 
 def ending(patterns, haystack, end):
-    """Lists the matches that end there, the longest first."""
+    """The matches that end there, the longest first."""
     return [
         (start, end, value)
         for start in range(end + 1)
@@ -81,7 +81,7 @@ def leftmost_find(patterns, haystack, is_first):
 
 
 def patterns_of(kind, patterns):
-    """Lists the patterns that an automaton of this kind holds, in byte order, and equal ones as they were registered."""
+    """The patterns of an automaton of this kind, in byte order, equal ones as registered."""
     begins = lambda value, it: any(it != other and it.startswith(other) for other in patterns[:value])
     return sorted(
         ((it, value) for value, it in enumerate(patterns) if kind != 2 or not begins(value, it)), key=lambda it: it[0]

@@ -1,21 +1,21 @@
 #!/bin/sh
 # pieces.sh DAACINDEX PATTERNS HAYSTACK BYTES [JOBS]
 #
-# Writes what `daacfind overlapping PATTERNS HAYSTACK` writes, from pieces of the haystack of BYTES bytes
-# each, of which JOBS (as many as there are processors) are searched at once: by GNU parallel where it is
-# installed, else by xargs. The program `daacindex` writes the automaton of the patterns once, and searches
-# each piece by it. Each piece is searched with the longest pattern's bytes less one in front of it, and a
-# match is counted in the piece in which it ends.
+# Writes what `daacfind overlapping PATTERNS HAYSTACK` writes, in parallel: the haystack is cut into
+# pieces of BYTES bytes, and JOBS of them, by default one for each processor, are searched at once,
+# by GNU parallel if it is installed, else by xargs. The program `daacindex` writes the automaton of
+# the patterns once, and searches each piece with it. A piece is searched together with as many
+# bytes before it as the longest pattern has, less one, and keeps the matches that end in it.
 set -eu
 export LC_ALL=C
 
-# The greatest number of bytes between two line feeds, whatever the bytes are.
+# The length of the longest line in bytes, which may be any.
 longest_line() {
     od -An -v -t u1 "$1" | tr -s ' ' '\n' |
         awk '$1 == "10" { n = 0; next } NF { n++; if (n > most) most = n } END { printf "%d\n", most }'
 }
 
-# Searches piece number $1, and leaves its lines in a file of that number.
+# Searches piece number $1, and writes its lines to a file of that number.
 search_piece() {
     at=$(($1 * PIECES_BYTES))
     start=$((at - PIECES_CARRIED))
@@ -23,7 +23,7 @@ search_piece() {
     piece="$PIECES_WORK/piece.$1"
     tail -c "+$((start + 1))" "$PIECES_HAYSTACK" | head -c "$((at - start + PIECES_BYTES))" > "$piece"
     "$PIECES_DAACINDEX" search overlapping "$PIECES_WORK/automaton" "$piece" > "$piece.found"
-    # What the first piece finds is all its own, also where an empty pattern matches at place 0.
+    # The first piece keeps all its matches, even an empty one at offset 0.
     awk -v start="$start" -v carried="$((at - start))" -v first="$1" \
         'first == 0 || $2 > carried { printf "%.0f %.0f %s\n", $1 + start, $2 + start, $3 }' \
         "$piece.found" > "$PIECES_WORK/lines.$1"

@@ -1,22 +1,21 @@
 /* Automata over bytes: many patterns searched at once.
  *
- * A handle begins as DAACHORSE_EMPTY. daachorse_build or daachorse_read fills it, the searches use it,
- * and daachorse_free empties it. Each call but daachorse_free returns DAACHORSE_DONE or the number of
- * another enum daachorse_answer, which says why it was refused. No call stops the process.
+ * A handle begins as DAACHORSE_EMPTY. daachorse_build or daachorse_read fills it, the searches use
+ * it, and daachorse_free empties it. Each call but daachorse_free returns an enum daachorse_answer:
+ * DAACHORSE_DONE, or why it was refused. No call stops the process.
  *
- * What the caller has to keep to:
+ * The caller must keep to this:
  *
  * - A handle is not copied, and its field is neither read nor written.
- * - No pointer is null, also where its length is 0, and each length is that of what its pointer
- *   points to. What is written to has a value before the call, whichever. What a call writes to
- *   overlaps nothing else that is passed to it.
- * - There is one call at a time for one handle. Calls for different handles may run at once. Another
- *   thread may have a handle, if a lock, a join or the like orders its calls behind the earlier ones.
- * - Memory is taken by malloc and realloc and given back by free, which come from one allocator, and
- *   align a block to each power of two up to 16 that divides its size. No call is made in a signal
+ * - No pointer is null, even if its length is 0, and each length is that of what its pointer points
+ *   to. Memory that a call writes to is initialised, and overlaps nothing else passed to the call.
+ * - A handle is used by one call at a time. Calls with different handles may run at once. A handle
+ *   may move to another thread, if a lock, a join or the like orders its calls after earlier ones.
+ * - Memory comes from malloc and realloc, and goes back to free. They are of one allocator, which
+ *   aligns a block to each power of two up to 16 that divides its size. No call is made in a signal
  *   handler, or in the forked child of a process with threads.
  *
- * All places and lengths are in bytes, unless something else is said.
+ * All offsets and lengths are in bytes, unless stated otherwise.
  */
 #ifndef DAACHORSE_H
 #define DAACHORSE_H
@@ -29,22 +28,22 @@
 extern "C" {
 #endif
 
-/* Nothing, or an automaton, which daachorse_free gives back. */
+/* Nothing, or an automaton, which daachorse_free frees. */
 typedef struct daachorse {
     void *opaque;
 } daachorse;
 
 #define DAACHORSE_EMPTY {NULL}
 
-/* A match: the haystack, as the automaton reads it, has a pattern with this value from start to end, one past its last
- * byte. */
+/* A match: the pattern with this value stands in the haystack from start to end, one past its last
+ * byte. If the automaton ignores ASCII case, so does this. */
 typedef struct daachorse_match {
     size_t start;
     size_t end;
     uint32_t value;
 } daachorse_match;
 
-/* The kinds of automata: which searches they are for. */
+/* The kinds of automata, by the searches that they serve. */
 enum daachorse_kind {
     DAACHORSE_STANDARD = 0,         /* all searches but daachorse_leftmost_find */
     DAACHORSE_LEFTMOST_LONGEST = 1, /* daachorse_leftmost_find: the longest pattern at a start */
@@ -56,43 +55,44 @@ enum daachorse_answer {
     DAACHORSE_DONE = 0,
     DAACHORSE_OUT_OF_MEMORY = 1,     /* an allocation failed */
     DAACHORSE_EMPTY_HANDLE = 2,      /* the handle has no automaton */
-    DAACHORSE_UNKNOWN_KIND = 3,      /* the number is that of no kind */
-    DAACHORSE_WRONG_KIND = 4,        /* the search is not for automata of this kind */
-    DAACHORSE_WRONG_PATTERNS = 5,    /* the ends fall or pass the bytes, or there is not a value for each */
+    DAACHORSE_UNKNOWN_KIND = 3,      /* no kind has this number */
+    DAACHORSE_WRONG_KIND = 4,        /* the search does not serve automata of this kind */
+    DAACHORSE_WRONG_PATTERNS = 5,    /* ends fall or pass the bytes, or ends_len != values_len */
     DAACHORSE_PATTERN_TOO_LONG = 6,  /* a pattern has more than 4294967295 bytes */
-    DAACHORSE_TOO_MANY_STATES = 7,   /* more than 4294967295 texts begin a pattern */
+    DAACHORSE_TOO_MANY_STATES = 7,   /* the patterns have more than 4294967295 prefixes */
     DAACHORSE_TOO_MANY_PATTERNS = 8, /* there are more than 16777215 patterns */
-    DAACHORSE_TOO_MANY_ELEMENTS = 9, /* the double array would have more than 4294967295 elements */
-    DAACHORSE_INVALID_AUTOMATON = 10, /* the bytes are not those of an automaton */
-    DAACHORSE_NO_ROOM = 11,          /* what is to be written is longer than the room for it */
+    DAACHORSE_TOO_MANY_ELEMENTS = 9, /* the double array would pass 4294967295 elements */
+    DAACHORSE_INVALID_AUTOMATON = 10, /* the bytes do not begin with an automaton */
+    DAACHORSE_NO_ROOM = 11,          /* the output is longer than the room for it */
     DAACHORSE_NO_STREAM = 12,        /* no stream was begun */
-    DAACHORSE_STREAM_TOO_LONG = 13   /* size_t has no numbers for the places or the matches of the stream */
+    DAACHORSE_STREAM_TOO_LONG = 13   /* an offset or the number of matches would pass size_t */
 };
 
-/* Fills the handle with an automaton of this kind. Pattern i, counted from 0, is what stands in bytes
- * between ends[i - 1], or 0, and ends[i], and has the value values[i]. Patterns may be empty, and equal
- * ones are all kept. With use_prefilter, searches may pass over places where no pattern begins; what
- * they find is the same without. With ascii_case_insensitive, A to Z are read as a to z in the patterns,
- * in the haystacks of all searches and in streams, so that "Ab" is found where ab, aB, Ab or AB stands;
- * every other byte is read as it is. Patterns that differ in nothing but case are then equal ones.
+/* Fills the handle with an automaton of this kind, and frees what it held. Pattern i, counted from
+ * 0, stands in bytes from ends[i - 1], or 0 for the first, up to ends[i], exclusive, and has the
+ * value values[i]. Patterns may be empty, and equal ones are all kept. use_prefilter lets searches
+ * skip places where no pattern begins, and changes no result. With ascii_case_insensitive, A to Z,
+ * and no other bytes, are read as a to z in the patterns, in all haystacks and in streams, so that
+ * "Ab" matches ab, aB, Ab and AB. Patterns that differ only in case are then equal.
  *
- * What the handle had is freed. Where the answer is not DAACHORSE_DONE, the handle is unchanged. It is one
- * of DAACHORSE_OUT_OF_MEMORY, _UNKNOWN_KIND, _WRONG_PATTERNS, _PATTERN_TOO_LONG, _TOO_MANY_STATES,
- * _TOO_MANY_PATTERNS and _TOO_MANY_ELEMENTS. */
+ * Returns DAACHORSE_DONE or, with the handle unchanged, DAACHORSE_OUT_OF_MEMORY, _UNKNOWN_KIND,
+ * _WRONG_PATTERNS, _PATTERN_TOO_LONG, _TOO_MANY_STATES, _TOO_MANY_PATTERNS or
+ * _TOO_MANY_ELEMENTS. */
 uint32_t daachorse_build(daachorse *handle, uint32_t kind, bool use_prefilter, bool ascii_case_insensitive,
         const uint8_t *bytes, size_t bytes_len, const size_t *ends, size_t ends_len, const uint32_t *values,
         size_t values_len);
 
-/* The searches write the first of their matches to out, as many as there are and as there is room for, and
- * how many these are to written. Where written is out_len there may be more: call again with more room. No
- * memory is taken. The answer is DAACHORSE_DONE, DAACHORSE_EMPTY_HANDLE or DAACHORSE_WRONG_KIND; unless it is
- * the first, nothing is written to out, and 0 to written. */
+/* The searches write their first matches to out, as many as there is room for, and their number to
+ * written. If that is out_len, there may be more: call again with more room. They allocate nothing.
+ * They return DAACHORSE_DONE or, with out unchanged and 0 in written, DAACHORSE_EMPTY_HANDLE or
+ * DAACHORSE_WRONG_KIND. */
 
-/* Matches that do not overlap, each as early as it can end, and of those that end there the longest. */
+/* Matches that do not overlap, each ending as early as possible, the longest of those that end
+ * there. */
 uint32_t daachorse_find(daachorse *handle, const uint8_t *haystack, size_t haystack_len, daachorse_match *out,
         size_t out_len, size_t *written);
 
-/* Every match, by rising ends, and of those that end together the longest first. */
+/* Every match, by ascending ends, the longest first of those that end together. */
 uint32_t daachorse_find_overlapping(daachorse *handle, const uint8_t *haystack, size_t haystack_len,
         daachorse_match *out, size_t out_len, size_t *written);
 
@@ -100,59 +100,59 @@ uint32_t daachorse_find_overlapping(daachorse *handle, const uint8_t *haystack, 
 uint32_t daachorse_find_overlapping_no_suffix(daachorse *handle, const uint8_t *haystack, size_t haystack_len,
         daachorse_match *out, size_t out_len, size_t *written);
 
-/* Matches that do not overlap, each as early as it can start, for the leftmost kinds. */
+/* Matches that do not overlap, each starting as early as possible, for automata of the leftmost
+ * kinds. */
 uint32_t daachorse_leftmost_find(daachorse *handle, const uint8_t *haystack, size_t haystack_len,
         daachorse_match *out, size_t out_len, size_t *written);
 
-/* Writes to found whether some pattern occurs in the haystack, whatever the automaton's kind. No memory is taken.
- * The answer is DAACHORSE_DONE, or DAACHORSE_EMPTY_HANDLE, and found is then false. */
+/* Writes to found whether some pattern occurs in the haystack. It serves automata of every kind,
+ * and allocates nothing. Returns DAACHORSE_DONE or, with false in found, DAACHORSE_EMPTY_HANDLE. */
 uint32_t daachorse_is_match(daachorse *handle, const uint8_t *haystack, size_t haystack_len, bool *found);
 
-/* A stream is a haystack that comes in pieces. A handle has one at most, which daachorse_build, daachorse_read and
- * daachorse_free end; the searches above leave it as it is. Its pieces are not kept: what is needed of them stands in
- * the automaton. Matches may lie across pieces, and places count from the beginning of the stream. */
+/* A stream is a haystack that comes in pieces. Matches may cross pieces, and offsets count from the
+ * beginning of the stream. A handle has at most one, which daachorse_build, daachorse_read and
+ * daachorse_free end and the searches leave as it is. Pieces need not be kept after the call. */
 
-/* Begins a stream, for the matches of daachorse_find_overlapping, or else for those of daachorse_find. It ends a stream
- * that the handle had. No memory is taken. The answer is DAACHORSE_DONE, DAACHORSE_EMPTY_HANDLE, or DAACHORSE_WRONG_KIND
- * where the automaton is not standard; unless it is the first, the handle is unchanged. */
+/* Begins a stream, for the matches of daachorse_find_overlapping if overlapping is true, else
+ * for those of daachorse_find, and ends a previous one. It allocates nothing. Returns
+ * DAACHORSE_DONE or, with the handle unchanged, DAACHORSE_EMPTY_HANDLE, or DAACHORSE_WRONG_KIND
+ * if the automaton is not standard. */
 uint32_t daachorse_begin(daachorse *handle, bool overlapping);
 
-/* Gives the stream its next bytes, be it one or a block of them, and writes the next of its matches to out. How many bytes
- * it consumed is written to taken, and how many matches it wrote to written. Unless written is out_len, all bytes were
- * consumed, and all matches in what came so far were told. Where written is out_len, no match is lost: call again with the
- * bytes behind the first taken, which may be none. No memory is taken. The answer is DAACHORSE_DONE,
- * DAACHORSE_EMPTY_HANDLE, DAACHORSE_NO_STREAM or DAACHORSE_STREAM_TOO_LONG; unless it is the first, the stream is
- * unchanged, nothing is written to out, and 0 to taken and written. */
+/* Feeds bytes to the stream, as few as one, and writes its next matches to out, the number of
+ * bytes consumed to taken, and that of matches to written. If written is less than out_len, all
+ * bytes were consumed and every match so far was reported. If it is out_len, call again with the
+ * bytes after the first taken, even if there are none: no match is lost. It allocates nothing.
+ * Returns DAACHORSE_DONE or, with the stream and out unchanged and 0 in taken and written,
+ * DAACHORSE_EMPTY_HANDLE, DAACHORSE_NO_STREAM or DAACHORSE_STREAM_TOO_LONG. */
 uint32_t daachorse_consume(daachorse *handle, const uint8_t *bytes, size_t bytes_len, daachorse_match *out,
         size_t out_len, size_t *taken, size_t *written);
 
-/* Writes the automaton to the beginning of out, and to size how many bytes that takes. daachorse_read reads it back, with
- * its kind and with whether it disregards ASCII case.
- * The answer is DAACHORSE_DONE, DAACHORSE_EMPTY_HANDLE, DAACHORSE_OUT_OF_MEMORY or
- * DAACHORSE_NO_ROOM; after the last, size is the room that is needed, and after the two before it 0. Unless it is the
- * first, nothing is written to out. */
+/* Writes the automaton to the front of out, and its length to size. daachorse_read reads it back,
+ * with its kind and whether it ignores ASCII case. Returns DAACHORSE_DONE or, with out unchanged,
+ * DAACHORSE_EMPTY_HANDLE or DAACHORSE_OUT_OF_MEMORY, with 0 in size, or DAACHORSE_NO_ROOM, with the
+ * length needed in size. */
 uint32_t daachorse_write(daachorse *handle, uint8_t *out, size_t out_len, size_t *size);
 
-/* Writes the patterns that the automaton holds to the beginnings of bytes, ends and values, in the form in which
- * daachorse_build takes them: pattern i, counted from 0, is what stands in bytes between ends[i - 1], or 0, and ends[i], and
- * has the value values[i]. They come in byte order, and equal ones as they were registered. How many bytes they have is
- * written to size, and how many patterns there are to count. An automaton of the kind DAACHORSE_LEFTMOST_FIRST holds no
- * pattern that extends one registered before it, and one that disregards ASCII case holds a to z in place of A to Z. Memory
- * is taken for a walk over the automaton and a copy of the patterns, and given back before the call returns.
+/* Writes the automaton's patterns to the fronts of bytes, ends and values, in the form that
+ * daachorse_build takes: in byte order, equal ones in order of registration. The number of their
+ * bytes is written to size, and that of patterns to count. An automaton of the kind
+ * DAACHORSE_LEFTMOST_FIRST holds no pattern that extends one registered before it, and one that
+ * ignores ASCII case holds a to z in place of A to Z. Memory for a walk over the automaton and a
+ * copy of the patterns is allocated, and freed before the call returns.
  *
- * The answer is DAACHORSE_DONE, DAACHORSE_EMPTY_HANDLE, DAACHORSE_OUT_OF_MEMORY or DAACHORSE_NO_ROOM. After the last, size
- * is the room that is needed in bytes, and count that in ends and in values; after the two before it both are 0. Unless the
- * answer is the first, nothing is written to bytes, ends and values. */
+ * Returns DAACHORSE_DONE or, with bytes, ends and values unchanged, DAACHORSE_EMPTY_HANDLE or
+ * DAACHORSE_OUT_OF_MEMORY, with 0 in size and count, or DAACHORSE_NO_ROOM, with the room needed:
+ * size in bytes, and count in ends and in values. */
 uint32_t daachorse_list(daachorse *handle, uint8_t *bytes, size_t bytes_len, size_t *ends, size_t ends_len,
         uint32_t *values, size_t values_len, size_t *size, size_t *count);
 
-/* Fills the handle with the automaton that the bytes begin with, whoever wrote them, and writes to taken how many of
- * them it takes. What the handle had is freed. The answer is DAACHORSE_DONE, DAACHORSE_OUT_OF_MEMORY or, where the
- * bytes begin with no automaton, DAACHORSE_INVALID_AUTOMATON. Unless it is the first, the handle is unchanged, and 0 is
- * written to taken. */
+/* Fills the handle with the automaton that the bytes begin with, frees what it held, and writes the
+ * automaton's length to taken. The bytes may be untrusted. Returns DAACHORSE_DONE or, with the
+ * handle unchanged and 0 in taken, DAACHORSE_OUT_OF_MEMORY or DAACHORSE_INVALID_AUTOMATON. */
 uint32_t daachorse_read(daachorse *handle, const uint8_t *bytes, size_t bytes_len, size_t *taken);
 
-/* Gives back what the handle has, if it has something. It is empty then. */
+/* Frees what the handle holds, and leaves it empty. */
 void daachorse_free(daachorse *handle);
 
 #ifdef __cplusplus

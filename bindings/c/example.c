@@ -1,5 +1,5 @@
-/* Builds automata, searches a haystack in each way, lists their patterns, and frees them. What is not as it should be ends it with
- * status 1. */
+/* Builds automata, searches a haystack in each way, lists their patterns, and frees them. Anything
+ * unexpected ends it with status 1. */
 #include "daachorse.h"
 
 #include <stdio.h>
@@ -15,7 +15,7 @@ static void need(bool holds, const char *what) {
     }
 }
 
-/* Prints all matches of a search. The room is doubled until it is not filled. */
+/* Prints all matches of a search. The room is doubled until it is not full. */
 static void show(daachorse *handle, const char *name, search_fn *search, const char *haystack) {
     size_t room = 1, written;
     daachorse_match *found = NULL;
@@ -48,7 +48,7 @@ static void build_for_any_case(daachorse *handle) {
     need(daachorse_build(handle, DAACHORSE_STANDARD, true, true, bytes, bytes_len, ends, 4, values, 4) == DAACHORSE_DONE, "build");
 }
 
-/* Prints the patterns that an automaton of this kind holds. The first call says how much room they need. */
+/* Prints the patterns of an automaton of this kind. The first call gets the room they need. */
 static void show_patterns(const char *name, uint32_t kind) {
     daachorse handle = DAACHORSE_EMPTY;
     uint8_t byte = 7, *texts;
@@ -91,7 +91,7 @@ static void show_searches(void) {
     daachorse_free(&handle);
 }
 
-/* A search writes no more than there is room for, and leaves what stands behind. */
+/* A search writes no more than there is room for, and leaves what follows unchanged. */
 static void see_room(void) {
     daachorse handle = DAACHORSE_EMPTY;
     daachorse_match found[3] = {{7, 7, 7}, {7, 7, 7}, {7, 7, 7}};
@@ -103,7 +103,7 @@ static void see_room(void) {
     daachorse_free(&handle);
 }
 
-/* A stream tells each match once, also those that lie across its pieces, whatever the room. */
+/* A stream reports each match once, even across pieces, whatever the room. */
 static void show_stream(bool overlapping) {
     const char *pieces[] = {"", "a", "bcda", "b"};
     daachorse handle = DAACHORSE_EMPTY;
@@ -171,7 +171,7 @@ static void see_refusals(void) {
     daachorse_free(&handle);
 }
 
-/* What was written is read back, whatever follows it, and finds the same. */
+/* A written automaton is read back, whatever follows it, and finds the same. */
 static void see_written(void) {
     daachorse handle = DAACHORSE_EMPTY, again = DAACHORSE_EMPTY;
     uint8_t little[1] = {7}, *form;

@@ -1,5 +1,5 @@
-/* Refuses each request for memory of a build, a write, a listing and a read in turn. Each is to be answered by
- * DAACHORSE_OUT_OF_MEMORY, and to leave nothing behind. Link with -Wl,--wrap=malloc,--wrap=realloc. */
+/* Refuses each allocation of a build, a write, a listing and a read in turn. The call must return
+ * DAACHORSE_OUT_OF_MEMORY and leak nothing. Link with -Wl,--wrap=malloc,--wrap=realloc. */
 #include "daachorse.h"
 
 #include <stdio.h>
@@ -8,7 +8,7 @@
 void *__real_malloc(size_t size);
 void *__real_realloc(void *block, size_t size);
 
-/* How many requests are still granted. */
+/* How many more requests are granted. */
 static size_t granted;
 
 static bool grants(void) {
@@ -67,7 +67,7 @@ static uint32_t list_patterns(daachorse *handle) {
     return answer;
 }
 
-/* Makes the call with 0, 1, 2 and so on requests granted, until it is done. */
+/* Makes the call with 0, 1, 2 and so on requests granted, until it succeeds. */
 static void refuse_each(const char *name, uint32_t (*call)(daachorse *), daachorse *handle) {
     size_t refused = 0;
     for (;; refused++) {

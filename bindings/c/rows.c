@@ -1,8 +1,5 @@
-/* Reads the rows of a table from standard input, and compares what each search writes with its row, with a filter and
- * without. A row is a search, a kind, 1 where ASCII case is disregarded and else 0, the patterns in hexadecimal with commas
- * between them, the haystack, the number of matches, and each match as its start, its end and its value. "-" is the empty
- * text, and "none" no patterns. In place of a search stands "patterns" where the patterns of the automaton are listed, each as
- * its text and its value with a colon between them. */
+/* Reads the rows of a table from standard input, and compares each search with its row, with a
+ * prefilter and without. The table is that of bindings/rows.py, which describes it. */
 #include "daachorse.h"
 
 #include <inttypes.h>
@@ -12,7 +9,7 @@
 
 enum { ROOM = 64, WORD = 1024 };
 
-/* Patterns in the form in which the library takes and gives them. */
+/* Patterns in the form that the library takes and returns. */
 typedef struct {
     uint8_t bytes[WORD];
     size_t size;
@@ -40,7 +37,7 @@ static void need(bool holds, const char *what, size_t row) {
     }
 }
 
-/* Appends the bytes of a text in hexadecimal, and returns how many bytes there are then. */
+/* Appends the bytes of a text in hexadecimal, and returns the new number of bytes. */
 static size_t append(uint8_t *bytes, size_t len, const char *text, size_t text_len) {
     for (size_t i = 0; i + 1 < text_len; i += 2) {
         const char digits[] = {text[i], text[i + 1], 0};
@@ -60,7 +57,7 @@ static bool is_same(daachorse_match found, daachorse_match wanted) {
     return found.start == wanted.start && found.end == wanted.end && found.value == wanted.value;
 }
 
-/* Gives the haystack to a stream in pieces of this size, and compares what it tells in this room. */
+/* Feeds the haystack to a stream in pieces of this size, and compares the matches it reports. */
 static void see_stream(daachorse *handle, bool overlapping, const uint8_t *haystack, size_t len, size_t piece,
         size_t room, const daachorse_match *wanted, size_t count, size_t row) {
     size_t at = 0, told = 0, written;
@@ -79,7 +76,7 @@ static void see_stream(daachorse *handle, bool overlapping, const uint8_t *hayst
     need(told == count, "the number of matches of a stream", row);
 }
 
-/* Puts a pattern behind the others. */
+/* Appends a pattern. */
 static void put(pattern_list *list, const char *text, size_t text_len, uint32_t value) {
     list->size = append(list->bytes, list->size, text, text_len);
     list->ends[list->count] = list->size;
@@ -104,7 +101,7 @@ static void build(daachorse *handle, uint32_t kind, bool use_prefilter, bool any
             list->count) == DAACHORSE_DONE, "build", row);
 }
 
-/* Compares a search with what the rest of the row says. */
+/* Compares a search with the rest of the row. */
 static void see_search(const char *name, uint32_t kind, bool any_case, const pattern_list *list, const char *text,
         size_t count, size_t row) {
     search_fn *search = search_named(name);
@@ -131,8 +128,8 @@ static void see_search(const char *name, uint32_t kind, bool any_case, const pat
     }
 }
 
-/* Lists the patterns in room for so many, and compares them, or what is told where the room is too little. What stands
- * behind them, or in the room that is too little, is as it was. */
+/* Lists the patterns in this room, and compares them, or the sizes returned if the room is too
+ * little. No more is written. */
 static void see_list(daachorse *handle, size_t size_room, size_t ends_room, size_t values_room, const pattern_list *wanted,
         size_t row) {
     pattern_list found, before;
@@ -152,7 +149,7 @@ static void see_list(daachorse *handle, size_t size_room, size_t ends_room, size
     need(memcmp(found.values + count, before.values + count, (ROOM - count) * sizeof *found.values) == 0, "more values were written", row);
 }
 
-/* Compares the listing with what the rest of the row says, also that of an automaton that is built of it. */
+/* Compares the listing with the rest of the row, and with that of an automaton built of it. */
 static void see_patterns(uint32_t kind, bool any_case, const pattern_list *list, size_t count, size_t row) {
     pattern_list wanted = {.count = 0};
     for (size_t i = 0; i < count; i++) {

@@ -4,7 +4,8 @@
         for match in automaton.find_overlapping(b"abcd"):
             print(match.start, match.end, match.value)
 
-The shared library is that of the environment variable DAACHORSE_LIBRARY, else libdaachorse.so beside this file.
+The shared library is the file that the environment variable DAACHORSE_LIBRARY names, else
+libdaachorse.so in the folder of this file.
 """
 
 import collections
@@ -15,11 +16,11 @@ import os
 import threading
 
 Match = collections.namedtuple("Match", "start end value")
-Match.__doc__ = "A match: the haystack has a pattern with this value from start to end, in bytes."
+Match.__doc__ = "A match: the pattern with this value stands in the haystack from start to end, in bytes."
 
 
 class Kind(enum.IntEnum):
-    """The kinds of automata: which searches they are for."""
+    """The kinds of automata, by the searches that they serve."""
 
     STANDARD = 0
     LEFTMOST_LONGEST = 1
@@ -45,7 +46,7 @@ class Refusal(enum.IntEnum):
 
 
 class Refused(ValueError):
-    """The library refused a call, for want of memory aside, which raises MemoryError."""
+    """The library refused a call. If it ran out of memory, MemoryError is raised instead."""
 
     def __init__(self, refusal):
         super().__init__(refusal.name.lower().replace("_", " "))
@@ -105,10 +106,10 @@ def _need_done(answer):
 class Automaton:
     """An automaton over bytes.
 
-    Pattern i, counted from 0, has the value values[i], a number below 2 ** 32, or i where no values are given.
-    Where ascii_case_insensitive is true, A to Z are read as a to z, in the patterns and in what is searched, and
-    every other byte as it is. It may be used by several threads; its calls then wait for one another. Raises Refused
-    where the library refuses the patterns.
+    Pattern i, counted from 0, has the value values[i], below 2 ** 32, or i if no values are given.
+    With ascii_case_insensitive, A to Z are read as a to z in patterns and haystacks. The kind selects
+    the searches that may be called. Several threads may share it; its calls wait for one another.
+    Raises Refused if the library refuses the patterns.
     """
 
     def __init__(self, patterns, values=None, kind=Kind.STANDARD, use_prefilter=True, ascii_case_insensitive=False):
@@ -134,7 +135,10 @@ class Automaton:
 
     @classmethod
     def read(cls, written):
-        """Reads an automaton from the beginning of bytes, whoever wrote them, and returns it with what is left."""
+        """Reads the automaton that the bytes begin with, and returns it with the remaining bytes.
+
+        The bytes may be untrusted. Raises Refused if no automaton begins them.
+        """
         automaton = cls.__new__(cls)
         automaton._begin()
         taken = ctypes.c_size_t()
@@ -142,7 +146,7 @@ class Automaton:
         return automaton, written[taken.value :]
 
     def write(self):
-        """Returns the bytes from which `read` makes the automaton again."""
+        """Returns the automaton as bytes, for `read`."""
         with self._lock:
             room = (ctypes.c_uint8 * 0)()
             size = ctypes.c_size_t()
@@ -154,10 +158,11 @@ class Automaton:
             return bytes(room)
 
     def patterns(self):
-        """Returns a list of the patterns that the automaton holds, each with its value.
+        """Returns a list of the patterns of the automaton, each with its value.
 
-        They come in byte order, and equal ones as they were registered. One of the kind LEFTMOST_FIRST holds no pattern that
-        extends one registered before it, and one that disregards ASCII case holds a to z in place of A to Z.
+        They are in byte order, equal ones in order of registration. An automaton of the kind
+        LEFTMOST_FIRST holds no pattern that extends one registered before it, and one that ignores
+        ASCII case holds a to z in place of A to Z.
         """
         with self._lock:
             answer, size, count, listed = self._list(0, 0)
@@ -168,7 +173,7 @@ class Automaton:
         return [(joined[start:end], value) for start, end, value in zip([0, *ends], ends, values)]
 
     def find(self, haystack):
-        """Yields matches that do not overlap, each as early as it can end."""
+        """Yields matches that do not overlap, each ending as early as possible."""
         return self._search(_library.daachorse_find, haystack)
 
     def find_overlapping(self, haystack):
@@ -180,7 +185,7 @@ class Automaton:
         return self._search(_library.daachorse_find_overlapping_no_suffix, haystack)
 
     def leftmost_find(self, haystack):
-        """Yields matches that do not overlap, each as early as it can start, for the leftmost kinds."""
+        """Yields leftmost matches, which do not overlap, in an automaton of a leftmost kind."""
         return self._search(_library.daachorse_leftmost_find, haystack)
 
     def is_match(self, haystack):
@@ -190,11 +195,11 @@ class Automaton:
         return found.value
 
     def stream(self, overlapping=False):
-        """Begins a haystack that comes in pieces, and ends the one before it: for all matches, or for those of `find`."""
+        """Begins a stream, for all matches or for those of `find`, and ends a previous one."""
         return Stream(self, overlapping)
 
     def close(self):
-        """Gives back the memory. A call after it raises Refused."""
+        """Frees the memory. A later call raises Refused."""
         with self._lock:
             _library.daachorse_free(self._handle)
 
@@ -218,7 +223,7 @@ class Automaton:
             _need_done(export(self._handle, *arguments))
 
     def _list(self, size, count):
-        """Lists the patterns in room for so many. Returns the answer, how many bytes and patterns there are, and the room."""
+        """Returns the status of a listing, its numbers of bytes and patterns, and its arrays."""
         room = (ctypes.c_uint8 * size)(), (ctypes.c_size_t * count)(), (ctypes.c_uint32 * count)()
         size, count = ctypes.c_size_t(), ctypes.c_size_t()
         words = [word for it in room for word in (it, len(it))]
@@ -226,7 +231,7 @@ class Automaton:
         return answer, size.value, count.value, room
 
     def _search(self, export, haystack):
-        """Searches until there is room for all matches: at first with little, and then with what is likely to be enough."""
+        """Searches with little room at first, then with as much as is likely to be enough."""
         room = 64
         while True:
             found = (_Match * room)()
@@ -234,13 +239,13 @@ class Automaton:
             self._call(export, haystack, len(haystack), found, room, written)
             if written.value < room:
                 return (Match(match.start, match.end, match.value) for match in itertools.islice(found, written.value))
-            # A quarter more than where the matches go on as thick as so far.
+            # A quarter more than at the density of the matches so far.
             thick = room * len(haystack) * 5 // (max(found[room - 1].end, 1) * 4)
             room = min(max(thick, 2 * room), max(64 * room, 1 << 16))
 
 
 class Stream:
-    """A haystack that comes in pieces. An automaton has one at a time."""
+    """A stream: a haystack that comes in pieces. An automaton has one at a time."""
 
     def __init__(self, automaton, overlapping):
         self._automaton = automaton
@@ -249,9 +254,9 @@ class Stream:
             automaton._stream = self
 
     def feed(self, piece):
-        """Yields the matches that end in the next piece, and with the first piece the empty ones in front of it.
+        """Yields the matches that end in the next piece, and in the first also the empty ones at 0.
 
-        Places count from the beginning of the stream. Raises Refused where the automaton began another stream since.
+        Offsets count from the beginning of the stream. Raises Refused if a later stream was begun.
         """
         automaton = self._automaton
         piece, matches, room = bytes(piece), [], (_Match * 64)()

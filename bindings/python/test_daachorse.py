@@ -8,8 +8,7 @@ from daachorse import Automaton, Kind, Refusal, Refused
 
 PATTERNS = [b"ab", b"abcd", b"bc", b"cd"]
 
-# What each search finds of the patterns in a haystack: name, kind, whether ASCII case is disregarded, patterns, haystack,
-# matches.
+# What each search finds: name, kind, whether ASCII case is ignored, patterns, haystack, matches.
 ROWS = [
     ("find", Kind.STANDARD, False, PATTERNS, b"abcd", [(0, 2, 0), (2, 4, 3)]),
     ("find_overlapping", Kind.STANDARD, False, PATTERNS, b"abcd", [(0, 2, 0), (1, 3, 2), (0, 4, 1), (2, 4, 3)]),
@@ -31,7 +30,7 @@ ROWS = [
 
 
 def rows():
-    """Yields the rows of the table that C and Rust are tested by too, with what is found or listed as words."""
+    """Yields the rows of the table, which C and Rust are tested with too, results as words."""
     with open(os.path.join(os.path.dirname(os.path.abspath(__file__)), "..", "rows"), encoding="ascii") as lines:
         for line in lines:
             name, kind, any_case, patterns, haystack, count, *words = line.split()
@@ -52,7 +51,7 @@ def table():
 
 
 def listings():
-    """Yields the rows of listings: kind, whether ASCII case is disregarded, patterns, and what is listed."""
+    """Yields the rows of listings: kind, whether ASCII case is ignored, patterns, listing."""
     for name, kind, any_case, patterns, _haystack, words in rows():
         if name == "patterns":
             pairs = (it.split(":") for it in words)

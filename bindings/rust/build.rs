@@ -1,4 +1,4 @@
-//! Links the library for C, which lies in the folder of the environment variable DAACHORSE_LIBRARY_FOLDER.
+//! Links the library for C from the folder that DAACHORSE_LIBRARY_FOLDER names.
 
 use std::env;
 

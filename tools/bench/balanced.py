@@ -1,17 +1,19 @@
 #!/usr/bin/env python3
 """balanced.py WORK UNIT
 
-Of the times in WORK/times, of the links WORK/driver-1 and on: the ratio of each search in each of four cases, our
-function and the Rust crate's each beginning at a multiple of 32 bytes or at 16 past one, the middle of the links of a
-case, and the mean of the four. A processor may take half as long again where a jump of a small loop crosses or ends a
-line of 32 bytes, and where the linker puts a function is chance. A case that no link has is left out of the mean.
+Prints the ratio of each search, balanced over where functions begin, from the times in WORK/times
+of the links WORK/driver-1 and on. Our function and the Rust crate's each begin at a multiple of 32
+bytes or at 16 past one, which gives four cases. The mean of the cases is printed, and then the
+median of each case's links. A case that no link has is left out of the mean. A small loop may take
+half as long again if one of its jumps crosses or ends a line of 32 bytes, and where the linker puts
+a function is chance.
 """
 import re
 import statistics
 import subprocess
 import sys
 
-# Of a mode with another name than its function.
+# The functions of modes that are named otherwise.
 FUNCTIONS = {"longest": ("leftmost", "leftmost"), "first": ("leftmost", "leftmost"), "tokens": ("tokens", "leftmost")}
 WITH_ROWS = "rows_"
 OURS = re.compile(r"bench_c::over_(bytes|chars)::(\w+)")
@@ -19,14 +21,14 @@ THEIRS = re.compile(r"_ZN6driver6theirs5(bytes|chars)\d+([a-z_]+)17h")
 
 
 def functions(mode):
-    """The functions of a mode, ours and theirs. With rows the Rust crate's is the one without."""
+    """The functions of a mode, ours and theirs. The Rust crate has none with rows."""
     without = mode.removeprefix(WITH_ROWS)
     ours, theirs = FUNCTIONS.get(without, (without, without))
     return (f"{ours}_with_rows", theirs) if mode.startswith(WITH_ROWS) else (ours, theirs)
 
 
 def places(driver, unit):
-    """Whether each function begins at a multiple of 32, of either side."""
+    """Whether each function of either side begins at a multiple of 32."""
     found = {}
     for line in subprocess.run(["nm", driver], capture_output=True, text=True, check=True).stdout.splitlines():
         at, _, name = (line.split(maxsplit=2) + ["", ""])[:3]
@@ -38,7 +40,7 @@ def places(driver, unit):
 
 
 def ratios(path):
-    """The ratio of the medians of each mode, of one link after the other."""
+    """The ratio of the medians of each mode, link by link."""
     links = []
     for line in open(path):
         fields = line.rstrip("\n").split("\t")

@@ -2,10 +2,10 @@
 # module.sh keep WORK
 # module.sh link WORK MODULE NAME
 #
-# Tries by hand, with no proof, what a change of the source would take in a proved build. WORK is the folder where
-# run.sh built, in a clone where the gate has passed. `keep` builds its library once more, for which the benchmark is
-# proved again, and keeps what the compiler is given, as text, in WORK/module.ll. `link` compiles a changed copy MODULE
-# of it, and links the driver WORK/driver-NAME; it takes half a minute.
+# Tries by hand, with no proof, how fast a change of the compiled code is. WORK is the folder where
+# run.sh built, in a clone where the gate has passed. `keep` builds its library once more, which
+# proves the benchmark again, and keeps the compiler's input, as text, in WORK/module.ll. `link`
+# compiles a changed copy MODULE of it, and links the driver WORK/driver-NAME, in half a minute.
 set -eu
 here=$(CDPATH= cd -- "$(dirname -- "$0")" && pwd)
 top=$(CDPATH= cd -- "$here/../.." && pwd)
@@ -13,7 +13,7 @@ work=$(CDPATH= cd -- "$2" && pwd)
 kit=${KIT:-$(dirname -- "$(rt doc)")}
 clang=$kit/toolchain/bin/clang
 
-# A toolchain whose compiler first keeps the module.
+# A toolchain whose compiler first saves the module.
 make_toolchain() {
     mkdir -p "$work/toolchain/bin"
     ln -sfn "$kit/toolchain/lib" "$work/toolchain/lib"
@@ -37,7 +37,7 @@ keep() {
         -Xclang -disable-llvm-passes
 }
 
-# link MODULE NAME, with the flags that the kit gave, but for the files.
+# link MODULE NAME: uses the kit's flags, but for the files.
 link() {
     flags=$(grep -v -x -e -o -e '.*\.o' "$work/module.flags")
     # shellcheck disable=SC2086

@@ -1,15 +1,15 @@
 #!/bin/sh
 # run.sh CRATE WORK WORDS TEXT [WORDS TEXT ..]
 #
-# Measures the automata of this repository beside those of the Rust crate daachorse, whose folder
-# is CRATE, with the words of each file WORDS in its TEXT. WORK is a folder to work in; what an
-# earlier run built there is kept.
+# Measures the automata of this repository beside those of the Rust crate daachorse in the folder
+# CRATE, with the words of each file WORDS in its TEXT. WORK is a folder to work in; what an earlier
+# run built there is kept.
 #
 # UNITS=bytes or UNITS=chars measures one of the automata.
-# PARTS=build, PARTS=counts, PARTS=memory or PARTS=times does a part alone. SEEDS is how many links are timed
-# (5), ROUNDS how many rounds in each (15), BYTES the part of a text that instructions are counted
-# in (262144). MODES names what is counted and timed, and BUILDS of which kinds a build is. With FILTER=1 the
-# filter of places of both sides is on.
+# PARTS=build, PARTS=counts, PARTS=memory or PARTS=times does one part alone. SEEDS is the number of
+# links that are timed (5), ROUNDS that of rounds in each (15), and BYTES the length of the text for
+# counting instructions (262144). MODES names the modes that are counted and timed, and BUILDS the
+# kinds of builds. FILTER=1 turns on the prefilter of both sides.
 set -eu
 here=$(CDPATH= cd -- "$(dirname -- "$0")" && pwd)
 top=$(CDPATH= cd -- "$here/../.." && pwd)
@@ -27,11 +27,11 @@ searches="find overlapping no_suffix longest first tokens find_source overlappin
 rows="rows_find rows_overlapping rows_no_suffix rows_longest rows_first rows_find_source rows_overlapping_source rows_no_suffix_source rows_find_stepper rows_overlapping_stepper"
 others="list depths write read_unchecked read accelerate"
 
-# The static library, over a copy of the repository's crates, and the driver, linked SEEDS times
-# with its sections in another order.
+# The static library, over a copy of the repository's crates, and the driver, linked SEEDS times,
+# each with its sections in another order.
 build_links() {
     mkdir -p "$work/driver"
-    # It calls a function of C's, which marks where each build and each round begins and ends.
+    # It calls a function of C that marks where each build and each round begins and ends.
     RT_ALLOW_C=bench_c "$top/tools/gate/build_beside.sh" "$here/bench_c" "$work/rattle"
     cp -r "$here/driver/src" "$work/driver/"
     sed "s|@DAACHORSE@|$crate|" "$here/driver/Cargo.toml.in" > "$work/driver/Cargo.toml"
@@ -47,19 +47,19 @@ build_links() {
     done
 }
 
-# Instructions of one run of the driver.
+# The instructions of one run of the driver.
 instructions() {
     valgrind --tool=callgrind --callgrind-out-file=/dev/null "$work/driver-1" "$@" 2>&1 >/dev/null |
         sed -n 's/.*Collected : //p'
 }
 
-# The most bytes of memory at once in one run of the driver.
+# The peak memory of one run of the driver, in bytes.
 memory() {
     valgrind --tool=dhat --dhat-out-file=/dev/null "$work/driver-1" "$@" 2>&1 >/dev/null |
         sed -n 's/.*At t-gmax: *\([0-9,]*\) bytes.*/\1/p' | tr -d ,
 }
 
-# memory_all UNIT WORDS: what a build of either side takes at its most, beside the words.
+# memory_all UNIT WORDS: the peak memory of a build of either side, without the words.
 memory_all() {
     printf 'what\tours most bytes\ttheirs\tratio\n'
     for mode in ${BUILDS-find longest first}; do
@@ -71,7 +71,7 @@ memory_all() {
     done
 }
 
-# count NAME SIZE HEAD..: instructions of one more round or build of either side, each divided by SIZE.
+# count NAME SIZE HEAD..: the instructions of a round or build of either side, divided by SIZE.
 count() {
     name=$1 size=$2
     shift 2
@@ -96,8 +96,8 @@ count_all() {
     done
 }
 
-# time_links UNIT WORDS TEXT: the lines of all links, then of each column the middle one, and then the ratios balanced
-# over where the functions begin.
+# time_links UNIT WORDS TEXT: the lines of all links, the median of each column, and the ratios
+# balanced over where functions begin.
 time_links() {
     seed=1
     while [ "$seed" -le "$seeds" ]; do

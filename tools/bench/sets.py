@@ -1,11 +1,12 @@
 #!/usr/bin/env python3
 """sets.py OUT SEED [BYTES]
 
-Makes sets of words with a text for a run of the benchmark, the same for the same SEED. rules.50, rules.300
-and rules.3000 are lists of rules of a log, one a line, and log.txt is a log of BYTES bytes (1000000) in which
-one line of fifty has a rule of the smallest list and one of ten a rule of the largest. words.50, words.1000 and
-words.20000 are lists of made-up words, one a line, and text.txt is a text of BYTES bytes of the words of the
-largest list, a word the rarer the further down it stands.
+Makes sets of words, each with a text, for a run of the benchmark. The same SEED makes the same
+sets. rules.50, rules.300 and rules.3000 are lists of rules for a log, one a line. log.txt is a log
+of BYTES bytes (1000000): one line in fifty has a rule of the smallest list, and one in ten a rule
+of the largest. words.50, words.1000 and words.20000 are lists of made-up words, one a line.
+text.txt is a text of BYTES bytes of the words of the largest list, each rarer than those listed
+before it.
 """
 import itertools
 import os
@@ -36,7 +37,7 @@ def word(chance, least=3, most=9):
 
 
 def rule(chance, number):
-    """A phrase, an error's code, a name of a host, or a path."""
+    """A phrase, an error code, a host name or a path."""
     kind = number % 4
     if kind == 0:
         return f"{chance.choice(SUBJECTS)} {chance.choice(FAULTS)}"
@@ -97,7 +98,7 @@ def vocabulary(chance, count):
 
 
 def text(chance, size, words):
-    """Lines of words, of which the n-th is drawn in proportion to 1 / n."""
+    """Lines of words. The n-th word is drawn in proportion to 1 / n."""
     weights = list(itertools.accumulate(1 / (rank + 1) for rank in range(len(words))))
     lines, length = [], 0
     while length < size:

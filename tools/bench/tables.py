@@ -2,7 +2,7 @@
 """tables.py RESULTS PAGE PICTURE
 
 Writes the tables of PAGE, each between the lines `<!-- NAME -->` and `<!-- /NAME -->`, and the bars
-of PICTURE, of what tables.sh left in RESULTS. What was not measured is left empty.
+of PICTURE, from the results of tables.sh in RESULTS. What was not measured is left empty.
 """
 import math
 import os
@@ -33,13 +33,13 @@ OTHERS = {
     "build first": "build, first",
 }
 WITH_ROWS = ["find", "overlapping", "longest", "find_source", "find_stepper"]
-# A build's name where its instructions or its memory are counted.
+# The names of builds whose instructions or memory are counted.
 COUNTED = {
     "build standard": "build for find",
     "build longest": "build for longest",
     "build first": "build for first",
 }
-# By the first words of a part's heading in the output of run.sh.
+# The parts of run.sh's output, by the first words of their headings.
 PARTS = {
     "link": "links",
     "middle of the links": "times",
@@ -97,7 +97,7 @@ class Results:
 
     @staticmethod
     def read_peers(folder):
-        """The nanoseconds a byte of each peer in each set where it finds as many matches as ours."""
+        """The nanoseconds a byte of each peer, in sets where it finds as many matches as ours."""
         found = []
         for line in lines_of(folder, "peers"):
             if line == "set":
@@ -119,23 +119,23 @@ class Results:
         return self.times[unit][number].get(part, {})
 
     def milliseconds(self, unit, number, mode, side=0):
-        """The median of the rounds, ours or, with side 1, the Rust crate's, of the middle link."""
+        """The median of the rounds of the middle link: ours, or with side 1 the Rust crate's."""
         fields = self.part(unit, number, "times").get(mode)
         return float(fields[1 + 2 * side]) if fields else None
 
     def nanoseconds(self, unit, number, mode, side=0):
-        """The same, a byte of the text or, for what is no search, of the words."""
+        """The same for each byte of the text, or of the words if the mode is no search."""
         found = self.milliseconds(unit, number, mode, side)
         return found and found * 1e6 / self.sizes[number][0 if mode in OTHERS else 1]
 
     def ratio(self, unit, number, mode):
-        """Our time by the Rust crate's, balanced where that is known."""
+        """Our time divided by the Rust crate's, balanced if that is known."""
         balanced = self.part(unit, number, "balanced").get(mode)
         fields = balanced or self.part(unit, number, "times").get(mode)
         return float(fields[0 if balanced else -1]) if fields else None
 
     def instructions(self, unit, name, mode):
-        """Our instructions by the Rust crate's."""
+        """Our instructions divided by the Rust crate's."""
         fields = self.counts[unit, name].get("instructions", {}).get(COUNTED.get(mode, mode))
         return float(fields[-1]) if fields else None
 
@@ -169,7 +169,7 @@ def table(heading, rows):
 
 
 def of_unit(results, unit):
-    """The searches and all else over bytes or over characters."""
+    """All modes over bytes or over characters."""
     for mode, label in {**SEARCHES, **OTHERS}.items():
         ratios = [results.ratio(unit, number, mode) for number in range(len(SETS))]
         known = [ratio for ratio in ratios if ratio is not None]
@@ -184,7 +184,7 @@ def of_unit(results, unit):
 
 
 def with_rows(results):
-    """The searches after `accelerate`, and how long that takes."""
+    """The searches after `accelerate`, and the time that it takes."""
     def ratio(unit, number, mode):
         if not results.has_room(unit, number, mode):
             return "none"
@@ -203,7 +203,7 @@ def with_rows(results):
 
 
 def bars(results, number):
-    """Of a set the nanoseconds a byte of all that is compared, over bytes."""
+    """The nanoseconds a byte of everything compared in a set, over bytes."""
     def of(mode, side=0):
         return results.nanoseconds("bytes", number, mode, side)
 
@@ -231,7 +231,7 @@ def beside_peers(results):
 
 
 def memory(results):
-    """A sentence on what builds hold."""
+    """A sentence on the memory that builds hold."""
     cells = []
     for unit, label in (("bytes", "bytes"), ("chars", "characters")):
         for name in SETS[:2]:
@@ -270,7 +270,7 @@ def write_page(path, results):
         file.write(page)
 
 
-# Where bars begin, how wide the picture is, how high a bar, and what stands between groups.
+# Where bars begin, the width of the picture, the height of a bar, and the space between groups.
 LEFT, WIDTH, BAR, GROUP = 250, 720, 11, 10
 BOLD = ' font-weight="bold"'
 COLOURS = ["#1b4f8f", "#4b8fd6", "#d9822b", "#8a8a8a", "#8a8a8a", "#8a8a8a", "#4b8fd6", "#8a8a8a"]

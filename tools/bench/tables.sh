@@ -1,13 +1,13 @@
 #!/bin/sh
 # tables.sh DAACHORSE WORK WORDS TEXT OTHER_WORDS OTHER_TEXT
 #
-# Measures the seven sets of docs/SPEED.md, and makes its tables and docs/speed.svg anew. DAACHORSE
-# is the folder of the Rust crate, WORK a folder to work in, WORDS and TEXT a list of English words
-# and what they are searched in, and the last two the same in Japanese. sets.py makes the other sets.
+# Measures the seven sets of docs/SPEED.md, and writes its tables and docs/speed.svg. DAACHORSE is
+# the folder of the Rust crate, WORK a folder to work in, WORDS and TEXT a list of English words and
+# a text to search, and the last two the same in Japanese. sets.py makes the other sets.
 #
-# It takes some 25 minutes on four cores, on which nothing else should run. LINKS is how many links
-# are timed (8), ROUNDS how many rounds in each (5), and BYTES the part of a text that instructions
-# are counted in (65536). A peer that is not installed leaves its cells empty.
+# It takes some 25 minutes on four cores, which should be idle. LINKS is the number of links that
+# are timed (8), ROUNDS that of rounds in each (5), and BYTES the length of the text for counting
+# instructions (65536). A peer that is not installed leaves its cells empty.
 set -eu
 here=$(CDPATH= cd -- "$(dirname -- "$0")" && pwd)
 top=$(CDPATH= cd -- "$here/../.." && pwd)
@@ -23,8 +23,7 @@ find_stepper overlapping_stepper list depths"
 timed="$counted write read_unchecked read accelerate rows_find rows_overlapping rows_longest
 rows_find_source rows_find_stepper"
 
-# for_sets COMMAND..: runs the command with the words and the text of each set, in the order of
-# tables.py.
+# for_sets COMMAND..: runs the command with each set's words and text, in the order of tables.py.
 for_sets() {
     "$@" "$words" "$text"
     "$@" "$other_words" "$other_text"

@@ -1,10 +1,10 @@
 #!/usr/bin/env python3
-"""by_grep.py CASES FOUND: leftmost-longest searches over bytes without regard to case, beside `grep -i -F -o -b`.
+"""by_grep.py CASES FOUND: compares leftmost-longest searches with `grep -i -F -o -b`.
 
-Of the cases that `cases.py` wrote to CASES those are taken whose kind is leftmost-longest over bytes and that disregard the
-case of ASCII letters, and whose texts grep can be given: no empty pattern, and no line feed or zero byte. What this
-repository found for them stands in FOUND. In the C locale grep finds the leftmost matches, the longest at each start, and
-writes the place and the text of each. The last line says how many cases there were.
+It takes the cases of CASES, a file of `cases.py`, that are leftmost-longest over bytes, ignore
+ASCII case and have texts that grep accepts: no empty pattern, line feed or zero byte. FOUND has
+what this repository found in them. In the C locale grep finds leftmost-longest matches, and prints
+the offset and the text of each. The last line is the number of cases.
 """
 import os
 import subprocess

@@ -1,12 +1,13 @@
 #!/usr/bin/env python3
-"""cases.py CASES EXPECTED COUNT SEED: random patterns and haystacks, and what the plain definitions find.
+"""cases.py CASES EXPECTED COUNT SEED: random cases, and what the plain definitions find in them.
 
 Writes COUNT cases to the file CASES, one a line: the kind (s, l or f: standard, leftmost-longest or
-leftmost-first), the unit (b or c: bytes or characters), whether the haystack serves as a corpus, whether
-the automaton is written and read back (0 no, 1 by the read that does not check, 2 by the one that checks),
-whether the automaton of this repository may have a filter, whether the case of ASCII letters is disregarded, the patterns,
-and the haystack. Texts are in hexadecimal digits; `_` is the empty text, and `-` an empty list. What each search has to find
-goes to the file EXPECTED, a line a search: the case, the search, and the start, end and value of each match.
+leftmost-first), the unit (b or c: bytes or characters), whether the haystack serves as a corpus,
+whether the automaton is written and read back (0 no, 1 unchecked, 2 checked), whether this
+repository's may have a prefilter, whether ASCII case is ignored, the patterns, and the haystack.
+Texts are in hexadecimal; `_` is the empty text, and `-` an empty list. The expected results go to
+the file EXPECTED, one search a line: the case, the search, and the start, end and value of each
+match.
 """
 import random
 import sys
@@ -45,7 +46,7 @@ def dictionary(kind, patterns):
 
 
 def places(haystack):
-    """The place of each boundary, in bytes."""
+    """The offset of each boundary, in bytes."""
     return [len(bytes_of(haystack[:i])) for i in range(len(haystack) + 1)]
 
 
@@ -106,7 +107,7 @@ def random_text(random, alphabet, most):
 def random_case(random):
     unit = random.choice("bc")
     alphabet = random.choice(ALPHABETS[unit])
-    # No pattern is shorter than this. A filter comes only where all are long enough.
+    # No pattern is shorter than this: a prefilter is made only if all are long enough.
     least = random.choice([0, 1, 2, 3])
     patterns = [random_text(random, alphabet, random.choice([2, 3, 6, 40])) for _ in range(random.choice([0, 1, 2, 3, 5, 8, 30]))]
     patterns = [p for p in patterns if len(p) >= least]

@@ -1,9 +1,9 @@
 #!/bin/sh
 # run.sh CRATE WORK [COUNT [SEED]]
 #
-# Runs COUNT random cases (1000) from the seed SEED (1) through both automata of this repository, through
-# those of the Rust crate daachorse, whose folder is CRATE, and through the plain definitions, and says
-# whether any two differ. WORK is a folder to work in. The same seed gives the same cases.
+# Runs COUNT random cases (1000) from the seed SEED (1) through both automata of this repository,
+# those of the Rust crate daachorse in the folder CRATE, and the plain definitions, and reports any
+# difference. WORK is a folder to work in. The same seed gives the same cases.
 set -eu
 here=$(CDPATH= cd -- "$(dirname -- "$0")" && pwd)
 top=$(CDPATH= cd -- "$here/../.." && pwd)
@@ -27,7 +27,7 @@ for folder in "$top"/crates/*; do
         [ ! -d "$folder/$part" ] || cp -r "$folder/$part" "$work/ours/crates/$(basename "$folder")/"
     done
 done
-# The gate takes each .rt file for one of a crate of its own, so the sources have other names here.
+# The gate expects each .rt file to be in a crate of crates.txt, so these sources have other names.
 for source in "$here"/ours/src/*.rt.in; do
     cp "$source" "$work/ours/crates/differ/src/$(basename "${source%.in}")"
 done
@@ -40,7 +40,7 @@ python3 "$here/cases.py" "$work/cases" "$work/expected" "$count" "$seed"
     rt try --steps "$((1000000000 + count * 4000000))" --seconds "$((1000 + count * 4))" --data "cases=$work/cases" > "$work/printed") || true
 grep -E '^[0-9]+ (overlapping|no_suffix|find|leftmost|iter)' "$work/printed" > "$work/found.ours" || true
 
-# What the Rust crate is not asked for is missing in its lines.
+# The Rust crate's lines lack what it is not asked for.
 status=0
 for other in theirs filtered; do
     if grep -v -x -F -f "$work/expected" "$work/found.$other" > "$work/differs.$other"; then

@@ -1,13 +1,13 @@
 #!/bin/sh
 # build_beside.sh FOLDER WORK [VERB]
 #
-# Builds the crate in FOLDER, one of the tools', in a copy of the repository's crates in WORK. The file crate_line in
-# FOLDER is its line of crates.txt. The gate takes each source for one of a crate of its own, so those in FOLDER have
-# `.in` behind their names.
+# Builds the crate in FOLDER, a tool's, in a copy of the repository's crates in WORK. The file
+# crate_line in FOLDER is its line of crates.txt. The gate expects each source to be in a crate of
+# crates.txt, so the names of those in FOLDER end in `.in`.
 #
-# Where `rt ci` has left its libraries in this clone, the crate alone is proved, over these. Where it has not, the
-# command `rt VERB` proves the crates below it too, in the copy, which keeps what was proved: `rt lib`, or for a
-# program `rt run`, with VERB run.
+# If `rt ci` has left its libraries in this clone, the crate alone is proved, over these. Otherwise
+# `rt VERB` also proves the crates below it, in the copy, which keeps the proofs. VERB is lib, or
+# run for a program.
 set -eu
 here=$(CDPATH= cd -- "$(dirname -- "$0")" && pwd)
 top=$(CDPATH= cd -- "$here/../.." && pwd)
@@ -26,7 +26,8 @@ copy_sources() {
     done
 }
 
-# is_of_gate CRATE: whether the gate left its library there, and no source was changed since. The gate writes no stamp.
+# is_of_gate CRATE: whether the gate left its library there, and no source changed since. The gate
+# writes no stamp.
 is_of_gate() {
     [ -d "$1/out/rlib" ] && [ ! -e "$1/out/rlib/stamp" ] &&
         [ -z "$(find "$1/src" "$1/specs" "$1/proofs" -newer "$1/out/rlib" 2>/dev/null)" ]

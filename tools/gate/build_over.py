@@ -1,10 +1,11 @@
-"""Builds the static library or the program of a crate over the libraries that `rt ci` left in crates/*/out/rlib.
+"""Builds a static library or a program over the libraries of `rt ci` in crates/*/out/rlib.
 
     build_over.py KIT ROOT CRATE
 
-`rt lib` and `rt run` take no library that the gate left, and would prove each of them again. Here the crate alone is
-proved again. It leaves out/libCRATE.a or the program out/CRATE. Status 3 says that some library is not the gate's:
-`rt lib` or `rt run` is to be used then. TOOLCHAIN names another folder of compilers than the kit's.
+`rt lib` and `rt run` take no library of the gate's, and would prove each again. This proves the
+crate alone. It leaves out/libCRATE.a or the program out/CRATE. Status 3 means that some library is
+not the gate's: use `rt lib` or `rt run` then. TOOLCHAIN names a folder of compilers other than the
+kit's.
 """
 
 import os
@@ -17,7 +18,7 @@ sys.path.insert(0, f"{kit}/bin")
 import rtlib
 
 crate = next(it for it in rtlib.crates_below(root) if it.name == name)
-# The gate writes no stamp, and other commands always do. Libraries of the two do not fit together.
+# Libraries of the gate do not fit those of other commands, which alone write a stamp.
 if not all(os.path.isdir(it.rlib) and not os.path.exists(f"{os.path.dirname(it.rlib)}/stamp") for it in crate.below()):
     sys.exit(3)
 os.makedirs(f"{crate.folder}/out", exist_ok=True)

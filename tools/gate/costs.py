@@ -1,18 +1,18 @@
 #!/usr/bin/env python3
-"""costs.py [--record RECORD] [NAME..]: runs the gate, and says what each crate costs.
+"""costs.py [--record RECORD] [NAME..]: runs the gate, and prints what each crate costs.
 
-It runs `rt ci NAME..` at the top of the repository and passes on what that prints. From this output it
-takes how many functions, tests and wrong bodies each crate has, and from the processes that the gate
-starts how many processor seconds each crate's proof, tests and wrong bodies took. It prints a table at the
-end. Where the gate passed with no NAME, or with a RECORD, it also writes the table to COSTS.md beside this
-file, between the lines `<!-- costs -->` and `<!-- end of costs -->`. Its exit status is the gate's.
+It runs `rt ci NAME..` at the top of the repository, and passes on its output. This gives the
+numbers of functions, tests and wrong bodies of each crate, and the processes that the gate starts
+give the processor seconds of its proof, tests and wrong bodies. A table is printed at the end. If
+the gate passed with no NAME, or with a RECORD, the table is also written to COSTS.md beside this
+file, between the lines `<!-- costs -->` and `<!-- end of costs -->`. The exit status is the gate's.
 
-The gate does again only what is not kept from an earlier run on the machine. With RECORD, a file that this
-program makes, the table is of all runs with the same RECORD: what a run did counts in place of what the record
-has of it, and what it took from an earlier run counts as the record says. So the gate may be run in stages.
+The gate skips what is kept from an earlier run on the machine. With RECORD, a file that this
+program makes, the table covers all runs with the same RECORD: what a run did replaces its entry,
+and what it skipped keeps it. So the gate may be run in stages.
 
-The seconds of a process are read twice a second, so a crate's are a little less than it took. Without RECORD
-the sum in the last line is what the system counted.
+The seconds of a process are read twice a second, so a crate's are a little less than it took.
+Without RECORD the sum in the last line is what the system counted.
 """
 import json
 import os
@@ -31,7 +31,7 @@ TICKS = os.sysconf("SC_CLK_TCK")
 
 
 def text_of(path):
-    """What a file of /proc holds, or nothing once its process has ended."""
+    """The text of a file of /proc, or nothing after its process has ended."""
     try:
         with open(path, errors="replace") as it:
             return it.read()
@@ -40,7 +40,7 @@ def text_of(path):
 
 
 def below(pid):
-    """The process and all that it started."""
+    """The process and all its descendants."""
     found, left = [], [pid]
     while left:
         at = left.pop()
@@ -55,7 +55,7 @@ def below(pid):
 
 
 def work_of(pid):
-    """The crate that a process checks and the part of the work that it does, if it is a check."""
+    """The crate that a process checks and its part of the work, if it is a check."""
     words = text_of(f"/proc/{pid}/cmdline").split("\0")
     if "--crate-name" not in words:
         return None
@@ -68,7 +68,7 @@ def work_of(pid):
 
 
 def seconds_of(pid):
-    """The processor seconds of a process, without those of the processes that it started."""
+    """The processor seconds of a process, without those of its children."""
     fields = text_of(f"/proc/{pid}/stat").rpartition(")")[2].split()
     return (int(fields[11]) + int(fields[12])) / TICKS if len(fields) > 12 else 0
 
@@ -86,7 +86,7 @@ def watch(gate, taken):
 
 
 def counted(lines):
-    """The numbers of functions, tests and wrong bodies of each crate, by what the gate printed."""
+    """The numbers of functions, tests and wrong bodies of each crate, from the gate's output."""
     counts, name, part = {}, None, 0
     for line in lines:
         begun = re.match(r"== (\w+)(: its tests)?$", line)
@@ -117,7 +117,7 @@ def by_crate(taken):
 
 
 def recorded(path, lines, counts, sums):
-    """The numbers and the seconds of all runs with this record, which is written anew."""
+    """The numbers and the seconds of all runs with this record, which is updated."""
     runs = {}
     if os.path.exists(path):
         with open(path) as it:
@@ -129,7 +129,7 @@ def recorded(path, lines, counts, sums):
         for part in range(3):
             number, seconds = counts.get(name, [0] * 3)[part], sums.get(name, [0.0] * 3)[part]
             if part == 2 and name in kept and number:
-                # Wrong bodies that an earlier run tried are still of the record.
+                # Wrong bodies that an earlier run tried stay in the record.
                 run[0][2], run[1][2] = kept[name] + number, run[1][2] + seconds
             elif seconds:
                 run[0][part], run[1][part] = number, seconds

@@ -1,10 +1,9 @@
 #!/usr/bin/env python3
-"""lines.py: tells how many lines of specs and proofs there are for a line of code, by crate and in all.
+"""lines.py: prints the lines of specs and proofs for each line of code, by crate and in all.
 
-A line of code is a line of a file that ends in .rt in `crates/NAME/src`. Not counted are blank lines, comments, clauses,
-ghost items and what `ghost use` imports, the attributes that say how a proof is searched for, and tests. A line of specs or
-proofs is a line of a file that ends in .antt in `crates/NAME/specs` or `crates/NAME/proofs`, comments and blank lines
-among them.
+Lines of code are those of the files `crates/NAME/src/**/*.rt`, without blank lines, comments,
+clauses, ghost items, imports by `ghost use`, attributes for tactics, and tests. Lines of specs and
+proofs are all those of the .antt files in `crates/NAME/specs` and `crates/NAME/proofs`.
 
 Left out are the crates of tests alone, those whose names end in `_tests`.
 """
@@ -20,13 +19,13 @@ OPEN, CLOSE = "([{", ")]}"
 
 
 def balance(text):
-    """How many brackets the text opens and does not close."""
+    """The number of brackets that the text opens and does not close."""
     plain = re.sub(r"""'(\\.|[^\\])'|"(\\.|[^"\\])*"|//.*""", "", text)
     return sum(plain.count(it) for it in OPEN) - sum(plain.count(it) for it in CLOSE)
 
 
 def end_of(lines, at, ends):
-    """The line behind what begins at a line, which goes on until its brackets close and its last line has one of `ends`."""
+    """The line after an item: its brackets are closed, and its last line ends in one of `ends`."""
     depth = 0
     while at < len(lines):
         depth += balance(lines[at])
@@ -37,7 +36,7 @@ def end_of(lines, at, ends):
 
 
 def code_lines(text):
-    """How many lines of a source file are code."""
+    """The number of lines of code in a source file."""
     lines = text.splitlines()
     count, at = 0, 0
     while at < len(lines):

@@ -1,5 +1,5 @@
 #!/usr/bin/env python3
-"""readme.py: fails where the README's program is not that of crates/quick_start, which also cuts a text into words."""
+"""readme.py: fails if the README's program and crates/quick_start differ, the tokenizer aside."""
 import difflib
 import pathlib
 import re

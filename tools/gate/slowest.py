@@ -1,14 +1,15 @@
 #!/usr/bin/env python3
-"""slowest.py FOLDER [N]: tells which functions took longest in a check of a crate from nothing.
+"""slowest.py FOLDER [N]: prints the functions that took longest in a check of a crate from nothing.
 
-FOLDER is where the check kept its work, as `crates/NAME/out/incremental` after `rt check --jobs 1` in `crates/NAME`
-with no `out` there before. A check with one job saves each module as it ends, so the time between two files is what the
-later one took. It prints the N (20) slowest functions with their seconds, and which parts these went to: `Lts` is what
-the borrow checker makes, `Tie` joins it with the contracts of what is called, `Proof` is what tactics searched for,
-`Goals` and `Answers` are what is written in `proofs/`.
+FOLDER is where the check kept its work, as `crates/NAME/out/incremental` after `rt check --jobs 1`
+in `crates/NAME`, begun with no `out` there. A check with one job saves each module as it ends, so
+the time between two files is what the later one took. The N (20) slowest functions are printed with
+their seconds, and the parts that these went to: `Lts` is the borrow checker's output, `Tie` joins
+it with the contracts of callees, `Proof` is the search of tactics, and `Goals` and `Answers` are
+what is written in `proofs/`.
 
-Where the check did its work in batches, as that of a large crate may, the first function of each also has the time that
-it took to load the libraries.
+If the check worked in batches, as that of a large crate may, the first function of each batch also
+has the time to load the libraries.
 """
 import collections
 import os
@@ -25,7 +26,7 @@ def saved(folder):
 
 
 def part_of(name):
-    """The function that a file is of, and its part: `None` for what is of no function."""
+    """The function of a file, or `None`, and its part."""
     words = re.sub(r"^Rattle-\w+-(proofs|specs)\.", "", name).split(".")
     for index, word in enumerate(words):
         if word.split("-")[0] in PARTS:

@@ -1,9 +1,9 @@
 #!/bin/sh
 # run.sh WORK [COUNT [SEED]]
 #
-# Changes COUNT written automata (1000000) at random from the seed SEED (1), has each read by
-# `deserialize`, and searches those that are accepted, beside the plain definitions over the patterns
-# that they list. WORK is a folder to work in; what an earlier run proved there is kept.
+# Mutates COUNT written automata (1000000) at random from the seed SEED (1), reads each with
+# `deserialize`, and compares the searches of accepted ones with the plain definitions over the
+# patterns that they list. WORK is a folder to work in; what an earlier run proved there is kept.
 set -eu
 here=$(CDPATH= cd -- "$(dirname -- "$0")" && pwd)
 top=$(CDPATH= cd -- "$here/../.." && pwd)

@@ -1,8 +1,8 @@
 #!/bin/sh
 # run.sh WORK EXPONENT..
 #
-# Times the read that checks over automata of hostile shapes with about 2^EXPONENT elements, for each exponent.
-# WORK is a folder to work in. What an earlier run proved there is kept.
+# Times the checked read over automata of hostile shapes with about 2^EXPONENT elements, for each
+# exponent. WORK is a folder to work in. What an earlier run proved there is kept.
 set -eu
 here=$(CDPATH= cd -- "$(dirname -- "$0")" && pwd)
 top=$(CDPATH= cd -- "$here/../.." && pwd)

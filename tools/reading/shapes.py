@@ -1,9 +1,9 @@
 """shapes.py FOLDER EXPONENT..
 
-Writes the bytes of automata of hostile shapes, each with about 2^EXPONENT elements, to files in FOLDER. The name of
-a file says whether it is over bytes or characters, its shape and its exponent. All of them are right automata, so
-that a read that checks has to look at all of each. Beside them it writes a file of words that begin with about
-2^EXPONENT texts, for an automaton with nothing hostile in it.
+Writes automata of hostile shapes, each with about 2^EXPONENT elements, to files in FOLDER. The name
+of a file gives its unit, bytes or characters, its shape and its exponent. All automata are valid,
+so that a checked read has to look at all of each. A file of words with about 2^EXPONENT prefixes is
+written besides, for an automaton with nothing hostile in it.
 """
 
 import random
@@ -12,7 +12,7 @@ from array import array
 
 DEAD = 1
 LETTER = 0x61
-# Over characters the code k is that of the code point FIRST + k, which takes four bytes.
+# Over characters, code k is that of the code point FIRST + k, which takes four bytes.
 FIRST = 0x10000
 NONE = 0xFFFFFFFF
 
@@ -26,7 +26,7 @@ def words(numbers):
 
 
 def ending(outputs, num_states):
-    """The list of the outputs, each a value, a length and a parent; the standard kind, and no filter."""
+    """The outputs, each a value, a length and a parent; the standard kind; and no prefilter."""
     flat = [number for output in outputs for number in output]
     return words([len(outputs)] + flat) + bytes([0]) + words([num_states]) + bytes([0])
 
@@ -47,7 +47,7 @@ def over_characters(elements, alphabet, outputs, num_states):
 def chain_of_bytes(exponent):
     """One long pattern of one letter."""
     count = 1 << exponent
-    # The element at LETTER would ask for a base of 0, and the last block keeps a base that none uses.
+    # The element at LETTER would need a base of 0, and the last block keeps an unused base.
     states = [0] + [element for element in range(2, count - 256) if element != LETTER]
     elements = [[0, 0, 0] for _ in range(count)]
     used = set()
@@ -67,7 +67,7 @@ def chain_of_bytes(exponent):
 
 
 def blocks(count, block):
-    """So many blocks of vacant elements behind a root."""
+    """A root, and so many blocks of vacant elements after it."""
     elements = [[0, DEAD, DEAD, 0] for _ in range(count * block)]
     elements[0] = [0, DEAD, 0, 0]
     return elements
@@ -87,7 +87,7 @@ def chain_of_characters(exponent):
 
 
 def chain_with_fan(exponent):
-    """A chain whose end has as many children: to follow links for each of them would take the square of the size."""
+    """A chain whose end has as many children: following links for each would be quadratic."""
     block = 1 << (exponent - 1)
     elements = blocks(2, block)
     states = [0] + list(range(2, block))
@@ -98,7 +98,7 @@ def chain_with_fan(exponent):
     depth = len(states) - 1
     end = states[-1]
     elements[end][0] = block
-    # The child by the code 0 goes on with the chain's character, and its link is the end.
+    # The child by code 0 continues the chain's character, and its failure link is the end.
     elements[block] = [0, end, end, 1]
     for code in range(1, block):
         elements[block + code] = [0, end, 0, 1]
@@ -106,7 +106,7 @@ def chain_with_fan(exponent):
 
 
 def fan(exponent, run):
-    """A root with a child by each code, which all share so many outputs of one length."""
+    """A root with a child by each code. All share so many outputs of one length."""
     block = 1 << (exponent - 1)
     elements = blocks(2, block)
     elements[0][0] = block
@@ -117,7 +117,7 @@ def fan(exponent, run):
 
 
 def one_link(exponent):
-    """Many elements whose links all lead to one."""
+    """Many elements whose failure links all lead to one."""
     block = 1 << (exponent - 2)
     elements = blocks(3, block)
     elements[0][0] = block
@@ -129,7 +129,7 @@ def one_link(exponent):
 
 
 def words_of(exponent):
-    """Words that begin with about 2^exponent texts."""
+    """Words with about 2^exponent prefixes."""
     source = random.Random(exponent)
     letters = "abcdefghijklmnopqrstuvwxyz"
     count = (1 << exponent) // 12

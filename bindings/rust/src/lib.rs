@@ -14,7 +14,7 @@ use std::ffi::c_void;
 use std::fmt;
 use std::vec;
 
-/// A match: the haystack has a pattern with this value from `start` to `end`, in bytes.
+/// A match: the pattern with this value stands in the haystack from `start` to `end`, in bytes.
 #[repr(C)]
 #[derive(Clone, Copy, Debug, PartialEq, Eq)]
 pub struct Match {
@@ -26,7 +26,7 @@ pub struct Match {
     pub value: u32,
 }
 
-/// The kinds of automata: which searches they are for.
+/// The kinds of automata, by the searches that they serve.
 #[derive(Clone, Copy, Debug, PartialEq, Eq)]
 pub enum Kind {
     /// All searches but [`Automaton::leftmost_find`].
@@ -37,16 +37,16 @@ pub enum Kind {
     LeftmostFirst = 2,
 }
 
-/// Why the library refused a call: the number that it answered, which the header `daachorse.h` names.
+/// Why the library refused a call: the number that it returned. The header `daachorse.h` names all.
 #[derive(Clone, Copy, Debug, PartialEq, Eq)]
 pub struct Refusal(pub u32);
 
 impl Refusal {
     /// An allocation failed.
     pub const OUT_OF_MEMORY: Refusal = Refusal(1);
-    /// The search is not for automata of this kind.
+    /// The search does not serve automata of this kind.
     pub const WRONG_KIND: Refusal = Refusal(4);
-    /// The bytes are not those of an automaton.
+    /// The bytes do not begin with an automaton.
     pub const INVALID_AUTOMATON: Refusal = Refusal(10);
     const NO_ROOM: u32 = 11;
 }
@@ -151,7 +151,7 @@ fn done(answer: u32) -> Result<(), Refusal> {
     }
 }
 
-/// What a build is told. By default the kind is standard, there is a filter, and the case of ASCII letters is regarded.
+/// Settings of a build. By default the kind is standard, the prefilter is on, and case matters.
 ///
 /// ```
 /// use daachorse_c::Builder;
@@ -176,7 +176,7 @@ impl Default for Builder {
 }
 
 impl Builder {
-    /// What a build is told by default.
+    /// The default settings.
     pub fn new() -> Builder {
         Builder {
             kind: Kind::Standard,
@@ -185,19 +185,19 @@ impl Builder {
         }
     }
 
-    /// Sets the kind: which searches the automaton is for.
+    /// Sets the kind: which searches the automaton serves.
     pub fn kind(mut self, kind: Kind) -> Builder {
         self.kind = kind;
         self
     }
 
-    /// Sets whether there is a filter, by which searches may pass over places where no pattern begins.
+    /// Sets whether searches may skip places where no pattern begins. No result depends on it.
     pub fn use_prefilter(mut self, yes: bool) -> Builder {
         self.use_prefilter = yes;
         self
     }
 
-    /// Sets whether A to Z are read as a to z, in the patterns and in what is searched.
+    /// Sets whether A to Z are read as a to z in patterns and haystacks.
     pub fn ascii_case_insensitive(mut self, yes: bool) -> Builder {
         self.ascii_case_insensitive = yes;
         self
@@ -257,11 +257,12 @@ pub struct Automaton {
     has_empty: bool,
 }
 
-// The library proves that a handle may go to another thread. Each call takes the automaton by a `&mut`.
+// The library proves that a handle may move to another thread. Each call takes it by `&mut`.
 unsafe impl Send for Automaton {}
 
 impl Automaton {
-    /// Builds an automaton of these patterns. Pattern `i`, counted from 0, has the value `i`. A [`Builder`] has more settings.
+    /// Builds an automaton of these patterns. Pattern `i`, counted from 0, has the value `i`. A
+    /// [`Builder`] has more settings.
     ///
     /// # Errors
     ///
@@ -289,11 +290,12 @@ impl Automaton {
         builder.build_with_values(patvals)
     }
 
-    /// Reads an automaton from the beginning of bytes, whoever wrote them, and returns it with what is left.
+    /// Reads the automaton that the bytes begin with, and returns it with the remaining bytes. The
+    /// bytes may be untrusted.
     ///
     /// # Errors
     ///
-    /// The bytes begin with no automaton, or an allocation failed.
+    /// No automaton begins the bytes, or an allocation failed.
     pub fn read(bytes: &[u8]) -> Result<(Automaton, &[u8]), Refusal> {
         let mut automaton = Automaton::empty();
         let mut taken = 0;
@@ -309,7 +311,7 @@ impl Automaton {
         Ok((automaton, &bytes[taken..]))
     }
 
-    /// Returns the bytes from which [`Automaton::read`] makes the automaton again.
+    /// Returns the automaton as bytes, for [`Automaton::read`].
     ///
     /// # Errors
     ///
@@ -328,11 +330,11 @@ impl Automaton {
         }
     }
 
-    /// Lists the patterns that the automaton holds, each with its value: in byte order, and equal ones as they were
-    /// registered.
+    /// Returns the patterns of the automaton with their values, in byte order, equal ones in order
+    /// of registration.
     ///
-    /// One of the kind [`Kind::LeftmostFirst`] holds no pattern that extends one registered before it, and one that
-    /// disregards the case of ASCII letters holds a to z in place of A to Z.
+    /// One of the kind [`Kind::LeftmostFirst`] holds no pattern that extends one registered before
+    /// it, and one that ignores ASCII case holds a to z in place of A to Z.
     ///
     /// ```
     /// use daachorse_c::{Automaton, Kind};
@@ -373,7 +375,7 @@ impl Automaton {
         }
     }
 
-    /// Finds matches that do not overlap, each as early as it can end.
+    /// Finds matches that do not overlap, each ending as early as possible.
     ///
     /// # Errors
     ///
@@ -403,7 +405,7 @@ impl Automaton {
         self.search(daachorse_find_overlapping_no_suffix, haystack)
     }
 
-    /// Finds matches that do not overlap, each as early as it can start.
+    /// Finds matches that do not overlap, each starting as early as possible.
     ///
     /// # Errors
     ///
@@ -415,7 +417,7 @@ impl Automaton {
     /// Returns whether some pattern occurs.
     pub fn is_match(&mut self, haystack: &[u8]) -> bool {
         let mut found = false;
-        // It is refused for an empty handle alone, and an automaton's is filled.
+        // Only an empty handle is refused, and that of an automaton is not empty.
         let _done = unsafe {
             daachorse_is_match(
                 &mut self.handle,
@@ -427,7 +429,7 @@ impl Automaton {
         found
     }
 
-    /// Begins a haystack that comes in pieces, for all matches or for those of [`Automaton::find`].
+    /// Begins a stream, for all matches or for those of [`Automaton::find`].
     ///
     /// # Errors
     ///
@@ -447,8 +449,7 @@ impl Automaton {
         }
     }
 
-    /// Searches until there is room for all matches: at first with little room, and then with as much as is likely
-    /// to be enough.
+    /// Searches with little room at first, then with as much as is likely to hold all matches.
     fn search(&mut self, search: Search, haystack: &[u8]) -> Result<vec::IntoIter<Match>, Refusal> {
         let mut found = Vec::with_capacity(64);
         loop {
@@ -460,9 +461,9 @@ impl Automaton {
         }
     }
 
-    /// Searches for matches that do not overlap until there is room for all: at first for one in two bytes, at most
-    /// 65,536, and then for twice as many as there are. Where no pattern is empty, those that are left are the matches of
-    /// what is behind the last one, so none is searched for twice.
+    /// Searches for matches that do not overlap, at first with room for one in two bytes, at most
+    /// 65,536, then for twice as many. If no pattern is empty, it resumes after the last match:
+    /// the remaining matches are those of the rest.
     fn search_apart(
         &mut self,
         search: Search,
@@ -487,7 +488,7 @@ impl Automaton {
         }
     }
 
-    /// Has a search write its first matches behind those found, as many as there is room for.
+    /// Appends the first matches of a search, as many as there is room for.
     fn fill(
         &mut self,
         search: Search,
@@ -506,13 +507,13 @@ impl Automaton {
                 &mut written,
             )
         })?;
-        // The library wrote so many matches to the room, and reads none of it.
+        // SAFETY: the library wrote so many matches to the spare capacity, and reads none of it.
         unsafe { found.set_len(found.len() + written) };
         Ok(())
     }
 }
 
-/// Moves matches in what is behind a place to where they are in the whole.
+/// Adds an offset to matches that were found in a rest.
 fn move_by(place: usize, matches: &mut [Match]) {
     for found in matches {
         found.start += place;
@@ -520,7 +521,7 @@ fn move_by(place: usize, matches: &mut [Match]) {
     }
 }
 
-/// The patterns that end in the bytes at each of these, each with its value.
+/// The patterns that end at each of `ends` in the bytes, each with its value.
 fn patterns_in(bytes: &[u8], ends: &[usize], values: &[u32]) -> Vec<(Vec<u8>, u32)> {
     let mut start = 0;
     let mut patterns = Vec::with_capacity(ends.len());
@@ -537,18 +538,18 @@ const NO_MATCH: Match = Match {
     value: 0,
 };
 
-/// A haystack that comes in pieces. Places count from its beginning.
+/// A stream: a haystack that comes in pieces. Offsets count from its beginning.
 pub struct Stream<'a> {
     automaton: &'a mut Automaton,
 }
 
 impl Stream<'_> {
-    /// Gives the next piece, and returns the matches that end in it. The first call also returns the empty matches
-    /// at the beginning.
+    /// Feeds the next piece, and returns the matches that end in it. The first call also returns
+    /// the empty matches at the beginning.
     ///
     /// # Errors
     ///
-    /// There are no numbers for the places or the matches of so long a stream.
+    /// An offset or the number of matches would pass a `usize`.
     pub fn feed(&mut self, mut piece: &[u8]) -> Result<vec::IntoIter<Match>, Refusal> {
         let mut matches = Vec::new();
         let mut room = [NO_MATCH; 64];
@@ -574,8 +575,8 @@ impl Stream<'_> {
     }
 }
 
-/// How many matches a haystack may have, of which these are the first: a quarter more than where they go on as thick
-/// as so far, at least twice as many, and at most 65,536 or 64 times as many.
+/// The room for all matches of a haystack, by its first ones: a quarter more than at their density,
+/// at least twice as many as these, and at most 65,536 or 64 times as many.
 fn room_for(haystack: usize, first: &[Match]) -> usize {
     let count = first.len();
     let read = first.last().map_or(0, |last| last.end).max(1);
@@ -659,13 +660,13 @@ mod tests {
         (next(), next(), next() as u32)
     }
 
-    /// The words of each row of the table `bindings/rows`, by which C and Python are tested too.
+    /// The words of each row of the table `bindings/rows`, which C and Python are tested with too.
     fn rows() -> impl Iterator<Item = Vec<&'static str>> {
         let rows = include_str!("../../rows").lines();
         rows.map(|row| row.split(' ').collect())
     }
 
-    /// What a row says of a build, and the patterns.
+    /// The settings and the patterns of a row.
     fn settings(words: &[&str]) -> (Builder, Vec<Vec<u8>>) {
         let kinds = [Kind::Standard, Kind::LeftmostLongest, Kind::LeftmostFirst];
         let builder = Builder::new()

@@ -20,7 +20,7 @@ fn main(rt: HostRuntime) -> ExitCode {
     }
 }
 
-// The status of the command with the program's own arguments, files and streams.
+// Runs the command with the program's own arguments, files and streams.
 fn status(rt: &HostRuntime) -> Result<u8, DaachorseError> {
     let out = BufWriter::new(rt.alloc(), io::writer(rt)).map_err(|_| AllocError)?;
     let status = run_program(

@@ -1,6 +1,4 @@
-//! The command: from arguments to a status, and to a line on standard error where it fails.
-//!
-//! The layers above may rely on [`command`] returning the status that its ending has.
+//! The command: from arguments to a status, and to a line on standard error if it fails.
 
 ghost use Rattle.std.specs.Prelude.{◌≡◌, None, IfSome};
 ghost use Rattle.daacfind_command.specs.Commands.{Ask, AskNothing, EndsBy, status_of, words_of};
@@ -25,11 +23,8 @@ enum CommandError<'a> {
     Run(RunError),
 }
 
-/// Runs the command with the program's arguments, as [`command`] does, and returns its status.
-///
-/// # Errors
-///
-/// An allocation failed while the arguments were read.
+/// Runs [`command`] with the program's arguments, and returns its status. Fails if reading them
+/// runs out of memory.
 pub fn run_program<R: Env, I: Inputs, S: Sink, E: Sink>(
     env: &R,
     alloc: Global,
@@ -42,13 +37,12 @@ pub fn run_program<R: Env, I: Inputs, S: Sink, E: Sink>(
     Ok(command(alloc, &texts, files, out, err))
 }
 
-/// Runs the command, and returns its status.
+/// Runs the command, and returns its status: 0 if all was written, 2 after wrong usage, else 1.
 ///
-/// The arguments are a mode and the names of two files: of the patterns, one a line, and of the
-/// haystack. An argument that is not UTF-8 is `None`. The matches go to `out`. Where not all of them
-/// were written, a line on `err` tells the cause: the usage, where the arguments are no such three; else
-/// a file that could not be read, the refusal of a build, or a failure to write. A failure of `err` is
-/// passed over.
+/// The arguments are a mode and the names of two files: the patterns, one a line, and the haystack.
+/// An argument that is not UTF-8 is `None`. The matches go to `out`. If it fails, a line on `err`
+/// gives the cause: the usage, a file that cannot be read, the refusal of a build, or a failure to
+/// write. A failure of `err` is ignored.
 pub fn command<A: Allocator + Copy, I: Inputs, S: Sink, E: Sink>(
     alloc: A,
     args: &[Option<&str>],

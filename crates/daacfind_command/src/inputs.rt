@@ -1,4 +1,4 @@
-//! What the command is given: the bytes of its files, and its arguments.
+//! What the command is given: its files and its arguments.
 
 ghost use Rattle.std.specs.Prelude.{◌≡◌, ℕ, List, None, Option};
 ghost use Rattle.std.specs.Option.{option_map};
@@ -9,15 +9,15 @@ use std::env::FillError;
 use std::fs;
 use std::rt::{Env, Files};
 
-// Five arguments are enough to know that there are more than a command takes.
+// One more than any command takes, so that too many are noticed.
 const MOST_ARGUMENTS: usize = 5;
 
-/// Files by their names.
+/// Files by name.
 pub trait Inputs {
-    // What the files give by their names, where they tell it: the bytes, or none where a file cannot be read.
+    // The files' bytes by name, if known, and none for a file that cannot be read.
     ghost given: { Self → Option (List ℕ → Option (List ℕ)) };
 
-    /// Reads the bytes of a file. It is `None` where the file cannot be read for any cause.
+    /// Reads the bytes of a file, or returns `None` if it cannot be read.
     fn read(&mut self, name: &str) -> Option<Vec<u8>>
         ensures told { Tells (given self.old) name.now (option_map (λ bytes. bytes.items) result) }
         ensures same { given self.new ≡ given self.old };
@@ -30,7 +30,7 @@ pub struct FileInputs<'a, R: Files + AllocGlobal> {
 }
 
 impl<'a, R: Files + AllocGlobal> FileInputs<'a, R> {
-    /// Makes a view of the files that `rt` reaches.
+    /// The files that `rt` reaches.
     pub fn new(rt: &'a R) -> Self {
         FileInputs { rt }
     }
@@ -45,18 +45,14 @@ impl<R: Files + AllocGlobal> Inputs for FileInputs<'_, R> {
     }
 }
 
-/// The bytes of the arguments behind the program's name, at most five of them.
+/// The bytes of the arguments after the program's name, at most five of them.
 #[derive(Drop)]
 pub struct Arguments {
     list: Vec<Vec<u8>>,
 }
 
 impl Arguments {
-    /// Reads the arguments that `rt` has, behind the program's name.
-    ///
-    /// # Errors
-    ///
-    /// An allocation failed.
+    /// Reads the arguments that `rt` has. Fails if an allocation does.
     pub fn read(rt: &impl Env, alloc: Global) -> Result<Arguments, AllocError> {
         let mut list = Vec::new(alloc);
         for place in 1..=MOST_ARGUMENTS {
@@ -68,11 +64,7 @@ impl Arguments {
         Ok(Arguments { list })
     }
 
-    /// Returns each argument as text, or `None` for one that is not UTF-8.
-    ///
-    /// # Errors
-    ///
-    /// An allocation failed.
+    /// Returns each argument as text, or `None` if it is not UTF-8. Fails if an allocation does.
     pub fn texts(&self, alloc: Global) -> Result<Vec<Option<&str>>, AllocError> {
         let mut texts = Vec::with_capacity(alloc, self.list.len())?;
         for argument in &self.list {

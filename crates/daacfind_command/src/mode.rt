@@ -1,18 +1,18 @@
-//! The modes: how the program matches, and the word that asks for it.
+//! The modes: what the program finds, and the word that asks for it.
 
 ghost use Rattle.std.specs.Prelude.{◌≡◌, ◌↔◌};
 ghost use Rattle.daacfind_command.specs.Modes.{kind_of_mode, mode_word};
 
 use daachorse::MatchKind;
 
-/// How matches are found.
+/// Which matches are found.
 #[derive(Clone, Copy, Debug, PartialEq, Eq)]
 pub enum Mode {
     /// Every match, also those that overlap.
     Overlapping,
     /// The longest match at each end.
     NoSuffix,
-    /// Matches that do not overlap, each as early as it can end.
+    /// Matches that do not overlap, each ending as early as possible.
     Find,
     /// Leftmost matches, the longest at each start.
     Longest,
@@ -21,7 +21,7 @@ pub enum Mode {
 }
 
 impl Mode {
-    /// Returns the mode that the word names, if there is one.
+    /// Returns the mode that the word names, if any.
     pub fn from_word(word: &str) -> Option<Mode>
         ensures { (mode : Mode) → (result ≡ Some mode) ↔ (word.now ≡ mode_word mode) }
     {
@@ -34,7 +34,7 @@ impl Mode {
             _ => None,
         }
     }
-    /// Returns the kind of searches that the automaton is to be built for.
+    /// Returns the kind of automaton that the mode needs.
     pub fn match_kind(self) -> MatchKind
         ensures { result ≡ kind_of_mode self }
     {

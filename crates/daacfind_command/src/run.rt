@@ -1,7 +1,4 @@
 //! The engine: from the bytes of both files to the text that is written.
-//!
-//! The layers above may rely on [`run`] writing the text of the mode's matches, and on what it
-//! wrote and what its sink counted where it gives up.
 
 ghost use Rattle.std.specs.Prelude.{◌≡◌, ℕ, ◌+◌, ◌≤◌, ◌∷◌, ◌++◌, ◌-◌, ◌==◌, ◌↔◌, false, [], IsTrue, slice_get, List, length, map, drop, decimal, IfOk, IfErr, OnOk, OnErr};
 ghost use Rattle.std.specs.Iterator.{AlwaysYields, IsFinite};
@@ -24,11 +21,10 @@ use daachorse::{DoubleArrayAhoCorasick, DoubleArrayAhoCorasickBuilder, Match, Ma
 use std::alloc::{AllocError, Allocator};
 use thiserror::Error;
 
-// The greatest number of bytes of a line: two places of 20 digits, a value of 10, two spaces and
-// a line feed.
+// The longest line: two offsets of 20 digits, a value of 10, two spaces and a line feed.
 const LINE_LEN: usize = 53;
 
-/// Why a run gave up.
+/// Why a run failed.
 #[derive(Debug, Drop, Error)]
 pub enum RunError {
     /// The build refused the patterns.
@@ -57,15 +53,15 @@ impl From<SinkError> for RunError {
 
 /// Writes the matches in `haystack` of the patterns, which are the lines of `patterns`.
 ///
-/// The patterns have the values 0, 1, 2 and so on. The build takes memory from `alloc`; the search
-/// takes none. Each match is a line: its start and its end, in bytes, and its value, in decimal,
-/// with a space between. The sink is flushed once, at the end.
+/// The patterns have the values 0, 1, 2 and so on. Each match is a line: its start and end, in
+/// bytes, and its value, in decimal, separated by spaces. The sink is flushed once, at the end.
+/// The search allocates nothing.
 ///
 /// # Errors
 ///
-/// [`RunError::Build`] where the build refuses the patterns, and nothing was written then.
-/// [`RunError::Write`] where the sink failed: a beginning of the text was written, and all of it
-/// where only the flush failed.
+/// [`RunError::Build`] if the build refuses the patterns; nothing was written then.
+/// [`RunError::Write`] if the sink fails; a prefix of the text was written, or all of it if only
+/// the flush failed.
 pub fn run<S: Sink, A: Allocator + Copy>(
     alloc: A,
     mode: Mode,
@@ -87,11 +83,8 @@ pub fn run<S: Sink, A: Allocator + Copy>(
     Ok(())
 }
 
-/// Builds the automaton of the patterns, which are the lines of `file`, each with its number as its value.
-///
-/// # Errors
-///
-/// The build refused the patterns, or memory was refused.
+/// Builds the automaton of the lines of `file`, each with its number as its value. Fails if the
+/// build refuses them, or if an allocation fails.
 pub fn build<A: Allocator + Copy>(
     alloc: A,
     kind: MatchKind,
@@ -105,7 +98,7 @@ pub fn build<A: Allocator + Copy>(
     builder.build(alloc, patterns.iter().copied())
 }
 
-// The pieces between line feeds, less an empty one at the end.
+// The lines of a file. A line feed at the end begins no further line.
 fn lines<A: Allocator>(alloc: A, file: &[u8]) -> Result<Vec<&[u8], A>, AllocError>
     ensures { IfOk result (λ v. map (λ line. line.now) v.items ≡ pattern_lines file.now) }
 {
@@ -116,7 +109,6 @@ fn lines<A: Allocator>(alloc: A, file: &[u8]) -> Result<Vec<&[u8], A>, AllocErro
     Ok(lines)
 }
 
-// Whether the last of the pieces is empty.
 fn ends_empty(pieces: &[&[u8]]) -> bool
     ensures { IsTrue result ↔ (slice_get (map (λ piece. piece.now) pieces.now) (length pieces.now - 1) ≡ Some []) }
 {
@@ -132,11 +124,8 @@ fn pieces<A: Allocator>(alloc: A, file: &[u8]) -> Result<Vec<&[u8], A>, AllocErr
     file.split(|b| *b == b'\n').collect(alloc)
 }
 
-/// Writes what the mode finds in the haystack, each match on a line. The sink is not flushed.
-///
-/// # Errors
-///
-/// The sink failed, and a beginning of the text was written.
+/// Writes each match of the mode in the haystack on a line. The sink is not flushed. If it fails,
+/// it has taken a prefix of the text.
 pub fn write_mode<S: Sink, A: Allocator + Copy>(
     mode: Mode,
     automaton: &DoubleArrayAhoCorasick<u32, A>,
@@ -158,7 +147,6 @@ pub fn write_mode<S: Sink, A: Allocator + Copy>(
     }
 }
 
-// Writes each match on a line.
 fn write_matches<I: Iterator<Item = Match<u32>> + Drop, S: Sink>(
     matches: I,
     out: &mut S,
@@ -178,7 +166,7 @@ fn write_matches<I: Iterator<Item = Match<u32>> + Drop, S: Sink>(
     Ok(())
 }
 
-// Writes the match's line at the end of `line`, and answers where it begins.
+// Writes the match's line to the end of `line`, and returns where it begins.
 fn render(found: Match<u32>, line: &mut [u8; LINE_LEN]) -> usize
     ensures within { result ≤ 53 }
     ensures written { drop result line.new ≡ match_line found }
@@ -188,7 +176,7 @@ fn render(found: Match<u32>, line: &mut [u8; LINE_LEN]) -> usize
     render_number(found.start as u64, b' ', line, at)
 }
 
-// Writes the digits of `n`, and `mark` behind them, so that they end at `end`.
+// Writes the digits of `n`, then `mark`, so that they end at `end`, and returns where they begin.
 fn render_number(n: u64, mark: u8, line: &mut [u8], end: usize) -> usize
     requires room { length (decimal n) + 1 ≤ end }
     requires within { end ≤ length line.old }

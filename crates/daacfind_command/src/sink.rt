@@ -1,7 +1,4 @@
 //! Where text goes.
-//!
-//! The layers above may rely on a sink counting exactly its failures, and, where it tells the
-//! bytes that it took, on these growing by what each write says.
 
 ghost use Rattle.std.specs.Prelude.{◌≡◌, ℕ, ◌+◌, ◌≤◌, List, Option, length, IfOk, OnOk, OnErr};
 ghost use Rattle.std.specs.Io.KnownBytes.{Appends, Keeps, WriteAppends};
@@ -17,17 +14,16 @@ use std::marker::Model;
 #[derive(Clone, Copy, Debug, PartialEq, Eq)]
 pub struct SinkError;
 
-/// A place that takes bytes, perhaps only some at a time, and counts its failures.
-///
-/// An error is a failure, and so is a write that takes no byte of some.
+/// A place that takes bytes, perhaps only some at a time, and counts its failures: errors, and
+/// writes that take none of some bytes.
 pub trait Sink {
-    // The bytes that the sink took, where it tells them.
+    // The bytes that the sink took, if known.
     ghost taken: { Self → Option (List ℕ) };
 
     // The number of failures.
     ghost failures: { Self → ℕ };
 
-    /// Takes the first `n` of the bytes, and returns `n`. Where it returns an error, it took none.
+    /// Takes the first `n` bytes and returns `n`. An error means that it took none.
     fn write(&mut self, bytes: &[u8]) -> Result<usize, SinkError>
         ensures bound { IfOk result (λ n. n ≤ length bytes.now) }
         ensures taken { WriteAppends (taken self.old) (taken self.new) result bytes.now }
@@ -39,7 +35,7 @@ pub trait Sink {
         ensures failures { failures self.new ≡ failures_after_flush result (failures self.old) };
 }
 
-/// A sink over a writer. The count of its failures is for contracts alone, and takes no byte.
+/// A sink over a writer. Its count of failures is for contracts alone, and takes no space.
 #[derive(Drop)]
 pub struct WriterSink<W: Write> {
     writer: W,
@@ -55,7 +51,7 @@ impl<W: Write> Model for WriterSink<W> {
 }
 
 impl<W: Write> WriterSink<W> {
-    /// Makes a sink over the writer, with no failure yet.
+    /// Makes a sink over the writer, with no failure so far.
     pub fn new(writer: W) -> Self
         ensures writer { result.writer ≡ writer }
         ensures failures { result.failures ≡ 0 }
@@ -106,11 +102,8 @@ impl<W: Write> Sink for WriterSink<W> {
     }
 }
 
-/// Writes all of the bytes, in as many writes as the sink needs.
-///
-/// # Errors
-///
-/// The sink failed: a beginning of the bytes was taken, and no write came after the failure.
+/// Writes all bytes, in as many writes as the sink needs. If it fails, it has taken a prefix of
+/// them, and no write follows the failure.
 pub fn write_whole<S: Sink>(out: &mut S, bytes: &[u8]) -> Result<(), SinkError>
     ensures whole { OnOk result (Appends (S.taken out.old) (S.taken out.new) bytes.now) }
     ensures unfailed { OnOk result (S.failures out.new ≡ S.failures out.old) }

@@ -1,45 +1,42 @@
-//! Many patterns searched at once: the Aho-Corasick algorithm, as the Rust crate daachorse offers
-//! it, with proved contracts.
+//! Many patterns searched at once: the Aho-Corasick algorithm, after the Rust crate daachorse and
+//! under its paths, with proved contracts.
 //!
-//! This crate re-exports all that users need, under the Rust crate's paths. The algorithm is that
-//! of Aho and Corasick (1975); the compact layout of its automata is described by Kanda, Akabe and
-//! Oda (Engineering faster double-array Aho-Corasick automata, arXiv 2207.13870).
+//! The algorithm is that of Aho and Corasick (1975); the compact layout of its automata is
+//! described by Kanda, Akabe and Oda (Engineering faster double-array Aho-Corasick automata, arXiv
+//! 2207.13870).
 //!
 //! ```rust
 //! let words = [b"ab".as_slice(), b"abcd", b"bc", b"cd"];
 //! let automaton: DoubleArrayAhoCorasick<u32> = DoubleArrayAhoCorasick::new(rt.alloc(), words)?;
 //! for found in automaton.find_overlapping_iter(b"abcd") {
-//!     println!(rt; "{} {} {}", found.start(), found.end(), found.value())?;
+//!     println!(&rt; "{} {} {}", found.start(), found.end(), found.value())?;
 //! }
 //! ```
 //!
-//! This prints `0 2 0`, `1 3 2`, `0 4 1` and `2 4 3`: start, end and value. It is a part of the
-//! program `quick_start`, which the gate runs. `daachorse_uses` has callers with proofs, and the
-//! crate `daactok`, a tokenizer, is a small example of what stands on this one.
+//! This prints `0 2 0`, `1 3 2`, `0 4 1` and `2 4 3`: start, end and value. All offsets are in
+//! bytes. The contract of each search names the whole list of its matches, by the definitions of
+//! `daachorse_model`. The crate `daachorse_uses` has proved callers, and `daactok` is a tokenizer
+//! over this crate.
 //!
-//! What a search yields is said by the definitions of `daachorse_model`, and proved: the contract
-//! of each call that begins a search names the whole list. All places are counted in bytes.
+//! # Contents
 //!
-//! # What stands here
-//!
-//! - [`DoubleArrayAhoCorasick`] searches bytes, and [`CharwiseDoubleArrayAhoCorasick`] text, a
-//!   character at a time. Their builders set the kind of matches, the filter and the layout.
-//! - [`bytewise::Accelerated`] and [`charwise::Accelerated`], which `accelerate` of an automaton
-//!   makes where there is room, search slices and texts faster where the automaton is small.
-//! - [`MatchKind`] says which matches are wanted, and [`Match`] is one of them.
-//! - [`errors`] has what a call may refuse with; [`Result`] is short for it.
-//! - [`bytewise`] and [`charwise`] have the types of the searches, of the steppers and of the
-//!   states; [`Serializable`] is what a value type needs for an automaton to be written.
-//! - [`laws`] has what the lists of matches promise, for callers who prove something.
-//! - The rest, such as [`nfa_builder`], [`build_helper`] and [`prefilter`], is what a build is made
-//!   of; [`turns`] and [`counter`] are what contracts count by. A user needs none of it.
+//! - [`DoubleArrayAhoCorasick`] searches bytes, and [`CharwiseDoubleArrayAhoCorasick`] text, by
+//!   characters. Their builders set the kind of matches, the prefilter and the layout.
+//! - [`bytewise::Accelerated`] and [`charwise::Accelerated`], made by `accelerate`, search slices
+//!   and texts faster if the automaton is small.
+//! - [`MatchKind`] selects the matches to report, and [`Match`] is one of them.
+//! - [`errors`] has the error type of all calls, and [`Result`] is a result with it.
+//! - [`bytewise`] and [`charwise`] have the types of searches, steppers and states.
+//! - [`Serializable`] is what a value type needs for an automaton to be written.
+//! - [`laws`] has what every list of matches promises, for callers who prove something.
+//! - The rest, such as [`nfa_builder`] and [`prefilter`], serves builds and contracts.
 //!
 //! # Cost
 //!
-//! A search takes no memory. A standard search takes at most two turns, which are looks at one
-//! state, for each unit of the haystack; a leftmost one takes as many, and four times the units of
-//! the longest pattern for each match. An element of the double array takes 12 bytes over bytes and
-//! 16 over characters, and an output 8 bytes beside its value.
+//! A search allocates nothing. It looks at no more than two states for each unit of the haystack. A
+//! leftmost search adds at most four more for each unit of the longest pattern, at each match. An
+//! element of the double array takes 12 bytes over bytes and 16 over characters, and an output 8
+//! bytes and its value.
 #![tactic(auto)]
 
 pub use daachorse_build::{edge_map, nfa_builder};

@@ -1,8 +1,4 @@
-//! What a handle keeps, and what the calls of C ask of it.
-//!
-//! The layers above may rely on the first matches of a search in the haystack as the automaton reads it, as
-//! many as there is room for, on whether a pattern occurs, on the written form and the listing, where there is room for
-//! them, and on a stream telling its next matches.
+//! What a handle holds, and the calls on it.
 
 ghost use Rattle.std.specs.Prelude.{◌≡◌, ◌≢◌, ◌↔◌, [], None, IfErr, IfOk, IsTrue, OnErr, OnOk, length};
 ghost use Rattle.daachorse_model.specs.declared.MatchKind.TheVariants.{Standard};
@@ -27,12 +23,10 @@ use daachorse::DoubleArrayAhoCorasick;
 use std::alloc::Global;
 use std::marker::Model;
 
-/// An automaton over bytes, with a value of 32 bits for each pattern, and a stream that it searches.
+/// An automaton over bytes with 32-bit values, and the stream that it searches, if any.
 #[derive(Drop)]
 pub struct Searcher {
-    // The automaton of the library.
     searches: DoubleArrayAhoCorasick<u32, Global>,
-    // The stream, if one was begun.
     stream: Option<Stream>,
 }
 
@@ -49,7 +43,7 @@ impl Model for Searcher {
 }
 
 impl Searcher {
-    /// An automaton of the library, with no stream.
+    /// A searcher with no stream.
     pub(crate) fn new(searches: DoubleArrayAhoCorasick<u32, Global>) -> Searcher
         ensures searches { result.searches ≡ searches }
         ensures stream { result.stream ≡ None }
@@ -60,12 +54,8 @@ impl Searcher {
         }
     }
 
-    /// Writes the first matches of a search, as many as there are and as there is room for, and
-    /// returns how many these are.
-    ///
-    /// # Errors
-    ///
-    /// The search is not for automata of this kind.
+    /// Writes the first matches of a search, as many as there is room for, and returns their
+    /// number. Fails if the search does not serve automata of this kind.
     pub(crate) fn find(
         &self,
         search: SearchKind,
@@ -89,12 +79,8 @@ impl Searcher {
         self.searches.is_match(haystack)
     }
 
-    /// Writes the automaton to the beginning of `out`, and its length to `size`.
-    ///
-    /// # Errors
-    ///
-    /// An allocation failed, and 0 is written to `size`; or there is too little room. Nothing is written to
-    /// `out` then.
+    /// Writes the automaton to the front of `out`, and its length to `size`, which is set even if
+    /// there is too little room.
     pub(crate) fn write(
         &self,
         alloc: Global,
@@ -113,13 +99,8 @@ impl Searcher {
         copy_to_front(&form, out)
     }
 
-    /// Writes the patterns to the beginning of three arrays, as a build takes them, in byte order and equal ones
-    /// as they were registered; to `size` how many bytes they have, and to `count` how many they are.
-    ///
-    /// # Errors
-    ///
-    /// An allocation failed, and 0 is written to `size` and `count`; or there is too little room. Nothing is
-    /// written to the arrays then.
+    /// Writes the patterns to the fronts of three arrays, the number of their bytes to `size`, and
+    /// their own to `count`. Both are set even if there is too little room.
     pub(crate) fn list(
         &self,
         alloc: Global,
@@ -141,11 +122,7 @@ impl Searcher {
         listing.copy_to_front(bytes, ends, values)
     }
 
-    /// Begins a stream, for all matches or for those that do not overlap. The one before it ends.
-    ///
-    /// # Errors
-    ///
-    /// The automaton is not standard. It is unchanged then.
+    /// Begins a stream, for all matches or for those that do not overlap. A previous one ends.
     pub(crate) fn begin(&mut self, overlapping: bool) -> Result<(), Refusal>
         ensures begun { OnOk result (HasBegun overlapping self.old self.new) }
         ensures err { IfErr result (λ r. (r ≡ WrongKind) × (kind_of self.old.searches ≢ Standard)) }
@@ -158,11 +135,7 @@ impl Searcher {
         Ok(())
     }
 
-    /// Gives the stream more bytes, as far as there is room for its matches, and writes the next of these.
-    ///
-    /// # Errors
-    ///
-    /// There is no stream, or it is too long. Nothing changes then.
+    /// Feeds the stream while there is room for its matches, and writes these.
     pub(crate) fn consume(&mut self, bytes: &[u8], out: &mut [CMatch]) -> Result<Done, Refusal>
         ensures consumed { IfOk result (HasConsumed bytes.now self.old self.new out.old out.new) }
         ensures err { IfErr result (IsIdleCause self.old (length bytes.now) (length out.old)) }
@@ -181,7 +154,7 @@ impl Searcher {
     }
 }
 
-/// Writes the first matches of a search that is for the automaton's kind.
+/// Writes the first matches of a search that serves the automaton's kind.
 fn find_in(
     searches: &DoubleArrayAhoCorasick<u32, Global>,
     search: SearchKind,

@@ -1,7 +1,4 @@
-//! The build of an automaton of the patterns that C gives.
-//!
-//! The layers above may rely on an automaton that holds just these patterns, as its searches read them,
-//! of the kind that was asked for, or on the cause of a refusal.
+//! Builds an automaton of the patterns that C passes.
 
 ghost use Rattle.std.specs.Prelude.{◌≡◌, ◌≢◌, None, IfErr, IfOk, MatchResult, map};
 ghost use Rattle.daachorse_model.specs.declared.MatchKind.{MatchKind};
@@ -19,13 +16,7 @@ use daachorse::errors::DaachorseError;
 use daachorse::{DoubleArrayAhoCorasick, DoubleArrayAhoCorasickBuilder, MatchKind};
 use std::alloc::Global;
 
-/// Builds an automaton of the kind with this number, of the patterns in `bytes`, for searches with or
-/// without regard to the case of ASCII letters.
-///
-/// # Errors
-///
-/// The kind is unknown, the patterns are not in the bytes, the library refuses them, or an
-/// allocation failed.
+/// Builds an automaton of the patterns in `bytes`, of the kind with this number.
 pub(crate) fn build(
     alloc: Global,
     kind: u32,
@@ -63,7 +54,7 @@ fn kind_numbered(kind: u32) -> Result<MatchKind, Refusal>
     }
 }
 
-/// An automaton of these patterns, as its searches read them, and values.
+/// Builds an automaton of patterns with their values.
 fn build_of(
     alloc: Global,
     kind: MatchKind,

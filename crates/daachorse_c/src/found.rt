@@ -1,7 +1,4 @@
-//! Matches as C has them.
-//!
-//! The layers above may rely on the first matches of an iterator being written, as many as there are
-//! and as there is room for.
+//! Matches in C's layout.
 
 ghost use Rattle.std.specs.Prelude.{◌≡◌, ℕ, List, length};
 ghost use Rattle.std.specs.Iterator.{AlwaysYields, IsFinite};
@@ -10,20 +7,19 @@ ghost use Rattle.daachorse_c.specs.Writes.{Writes};
 
 use daachorse::Match;
 
-/// A match as C has it.
+/// A match in C's layout. Offsets are in bytes.
 #[repr(C)]
 #[derive(Clone, Copy)]
 pub struct CMatch {
-    /// Where the match starts, in bytes.
+    /// The offset where it starts.
     pub start: usize,
-    /// Where it ends, in bytes: one past its last.
+    /// The offset after its last byte.
     pub end: usize,
     /// The value of its pattern.
     pub value: u32,
 }
 
-/// Writes the first matches, as many as there are and as there is room for, and returns how many
-/// these are.
+/// Writes the first matches, as many as there is room for, and returns their number.
 #[inline(always)]
 pub(crate) fn fill<I: Iterator<Item = Match<u32>> + Drop>(matches: I, out: &mut [CMatch]) -> usize
     requires can { I.can_next matches }

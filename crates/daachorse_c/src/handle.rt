@@ -1,7 +1,4 @@
 //! The handle that C keeps.
-//!
-//! The layers above may rely on a handle being empty where its pointer is null, and on getting the
-//! automaton back that was put in.
 
 ghost use Rattle.std.specs.Prelude.{◌≡◌, Option, None, Some, MatchOption};
 ghost use Rattle.std.specs.contracts.impls.GlobalAllocator.TheImpl.{ghosts};
@@ -15,15 +12,13 @@ use std::alloc::Global;
 use std::marker::Model;
 use std::mem;
 
-/// Nothing, or an automaton on the heap.
-///
-/// To C it is a struct of one pointer, which is null where the handle is empty.
+/// Nothing, or an automaton on the heap. In C it is a struct of one pointer, null if empty.
 #[repr(C)]
 #[derive(Drop)]
 pub struct Handle {
     at: *mut u8,
     alloc: Global,
-    // The automaton that the handle has, if it has one.
+    // The automaton that the handle holds, if any.
     pub ghost automaton: { Option Held },
 }
 
@@ -34,7 +29,7 @@ impl Model for Handle {
 unsafe impl Send for Handle {}
 
 impl Handle {
-    /// A handle with no automaton.
+    /// An empty handle.
     fn none(alloc: Global) -> Handle
         ensures { result.automaton ≡ None }
     {
@@ -42,7 +37,7 @@ impl Handle {
         Handle { at, alloc }
     }
 
-    /// A handle with an automaton.
+    /// A handle that holds an automaton.
     fn of(loose: Loose<Searcher, Global>) -> Handle
         ensures { result.automaton ≡ Some loose.value }
     {
@@ -51,7 +46,7 @@ impl Handle {
         Handle { at, alloc }
     }
 
-    /// The automaton, if there is one.
+    /// The automaton that the handle held, if any.
     fn into_loose(self) -> Option<Loose<Searcher, Global>>
         ensures { MatchOption result (self.automaton ≡ None) (λ l. self.automaton ≡ Some l.value) }
     {
@@ -64,7 +59,7 @@ impl Handle {
         }
     }
 
-    /// Takes the automaton out, if there is one, and leaves the handle empty.
+    /// Takes the automaton out, if any, and leaves the handle empty.
     pub(crate) fn take(&mut self, alloc: Global) -> Option<Box<Searcher, Global>>
         ensures taken { MatchOption result (self.old.automaton ≡ None) (λ b. self.old.automaton ≡ Some b.value) }
         ensures empty { self.new.automaton ≡ None }
@@ -76,11 +71,7 @@ impl Handle {
         }
     }
 
-    /// Puts an automaton into an empty handle.
-    ///
-    /// # Conditions
-    ///
-    /// The handle is empty, since what it had would not be freed.
+    /// Puts an automaton into an empty handle. What a full one held would never be freed.
     pub(crate) fn put(&mut self, automaton: Box<Searcher, Global>)
         requires { self.old.automaton ≡ None }
         ensures { self.new.automaton ≡ Some automaton.value }
@@ -88,7 +79,7 @@ impl Handle {
         *self = Handle::of(Loose::of(automaton));
     }
 
-    /// Puts an automaton into the handle, and frees the one that it had.
+    /// Puts an automaton into the handle, and frees the one that it held.
     pub(crate) fn fill(&mut self, alloc: Global, automaton: Box<Searcher, Global>)
         ensures { self.new.automaton ≡ Some automaton.value }
     {

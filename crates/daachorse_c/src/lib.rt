@@ -1,9 +1,8 @@
-//! Automata over bytes for C, and for what can call C.
+//! The C interface: automata over bytes.
 //!
-//! C keeps a [`Handle`](handle::Handle), which is empty at first, and passes its address.
-//! [`daachorse_build`] fills it, the searches use it, [`daachorse_list`] gives its patterns, and
-//! [`daachorse_free`] empties it again. Each call answers 0, or the number of a [`Refusal`](refusal::Refusal).
-//! The header `bindings/c/daachorse.h` says what C has to keep to.
+//! C keeps a [`Handle`](handle::Handle), empty at first, and passes its address. Each call but
+//! [`daachorse_free`] returns 0, or the number of a [`Refusal`](refusal::Refusal). The header
+//! `bindings/c/daachorse.h` states what C has to keep to.
 #![tactic(auto)]
 
 ghost use Rattle.std.specs.Prelude.{◌≡◌, ◌≢◌, ◌↔◌, [], None, IsNone, IsSomeAnd, IsTrue, false, length};
@@ -41,14 +40,15 @@ mod search;
 mod stepper;
 mod stream;
 
-/// What a call answers that was not refused.
+/// Returned by a call that is not refused.
 const DONE: u32 = 0;
 
-/// Fills the handle with an automaton of the patterns that end in `bytes` at each of `ends`.
+/// Fills the handle with an automaton of the patterns that end in `bytes` at each of `ends`, and
+/// frees what it held.
 ///
-/// Each pattern begins where the one before it ends, and has the next of `values`. The kinds are 0
-/// standard, 1 leftmost longest and 2 leftmost first. Where `ascii_case_insensitive` is set, A to Z are
-/// read as a to z, in the patterns and in what is searched. What the handle had is freed.
+/// Each pattern begins where the previous one ends, and has the next of `values`. The kinds are 0
+/// standard, 1 leftmost-longest and 2 leftmost-first. With `ascii_case_insensitive`, A to Z are
+/// read as a to z in patterns and haystacks.
 ///
 /// # Errors
 ///
@@ -87,14 +87,12 @@ pub extern "C" fn daachorse_build(
     }
 }
 
-/// Finds matches that do not overlap, each of which ends as early as possible.
-///
-/// Writes the first of them to `out`, as many as there are and as there is room for, and how many
-/// these are to `written`. Where `out` is full there may be more.
+/// Writes to `out` the first matches that do not overlap, each ending as early as possible, and
+/// their number to `written`. If `out` is full, there may be more.
 ///
 /// # Errors
 ///
-/// The numbers of [`Refusal::EmptyHandle`], and of `WrongKind` where the automaton is not standard.
+/// The numbers of [`Refusal::EmptyHandle`], and of `WrongKind` if the automaton is not standard.
 /// Nothing is written to `out` then, and 0 to `written`.
 #[unsafe(no_mangle)]
 pub extern "C" fn daachorse_find(
@@ -109,11 +107,7 @@ pub extern "C" fn daachorse_find(
     write_found(alloc, handle, SearchKind::Find, haystack, out, written)
 }
 
-/// Finds every match, also those that overlap, as [`daachorse_find`] writes them.
-///
-/// # Errors
-///
-/// Those of [`daachorse_find`].
+/// Finds every match, overlapping ones too. Otherwise like [`daachorse_find`].
 #[unsafe(no_mangle)]
 pub extern "C" fn daachorse_find_overlapping(
     alloc: Global,
@@ -134,11 +128,7 @@ pub extern "C" fn daachorse_find_overlapping(
     )
 }
 
-/// Finds the longest match at each end, as [`daachorse_find`] writes them.
-///
-/// # Errors
-///
-/// Those of [`daachorse_find`].
+/// Finds the longest match at each end. Otherwise like [`daachorse_find`].
 #[unsafe(no_mangle)]
 pub extern "C" fn daachorse_find_overlapping_no_suffix(
     alloc: Global,
@@ -152,13 +142,8 @@ pub extern "C" fn daachorse_find_overlapping_no_suffix(
     write_found(alloc, handle, SearchKind::NoSuffix, haystack, out, written)
 }
 
-/// Finds matches that do not overlap, each of which starts as early as possible, as
-/// [`daachorse_find`] writes them.
-///
-/// # Errors
-///
-/// The numbers of [`Refusal::EmptyHandle`], and of `WrongKind` where the automaton is standard.
-/// Nothing is written to `out` then, and 0 to `written`.
+/// Finds matches that do not overlap, each starting as early as possible. Otherwise like
+/// [`daachorse_find`], but refused with `WrongKind` if the automaton is standard.
 #[unsafe(no_mangle)]
 pub extern "C" fn daachorse_leftmost_find(
     alloc: Global,
@@ -198,13 +183,12 @@ pub extern "C" fn daachorse_is_match(
     DONE
 }
 
-/// Begins a stream, a haystack that comes in pieces: for all matches, or for those of [`daachorse_find`].
-///
-/// What was consumed and not told of a stream before it is forgotten.
+/// Begins a stream, a haystack that comes in pieces, for all matches or those of
+/// [`daachorse_find`]. A previous stream ends, and its unreported matches are dropped.
 ///
 /// # Errors
 ///
-/// The numbers of [`Refusal::EmptyHandle`], and of `WrongKind` where the automaton is not standard.
+/// The numbers of [`Refusal::EmptyHandle`], and of `WrongKind` if the automaton is not standard.
 /// The handle is then unchanged.
 #[unsafe(no_mangle)]
 pub extern "C" fn daachorse_begin(alloc: Global, handle: &mut Handle, overlapping: bool) -> u32
@@ -223,16 +207,16 @@ pub extern "C" fn daachorse_begin(alloc: Global, handle: &mut Handle, overlappin
     }
 }
 
-/// Gives the stream the next bytes, and writes the next of its matches to `out`.
+/// Feeds bytes to the stream, and writes its next matches to `out`.
 ///
-/// Writes to `taken` how many bytes were consumed, and to `written` how many matches were written. Unless
-/// `out` is full, all bytes were consumed and all matches in what came so far were told. Places count from
+/// The number of bytes consumed is written to `taken`, and that of matches to `written`. Unless
+/// `out` is full, all bytes were consumed and every match so far was reported. Offsets count from
 /// the beginning of the stream.
 ///
 /// # Errors
 ///
-/// The numbers of [`Refusal::EmptyHandle`], of `NoStream`, and of `StreamTooLong` where the places or the
-/// matches would pass the numbers of 64 bits. Nothing changes then, and 0 is written to `taken` and `written`.
+/// The numbers of [`Refusal::EmptyHandle`], `NoStream`, and `StreamTooLong` if an offset or the
+/// number of matches would pass 64 bits. Nothing changes then, and `taken` and `written` are 0.
 #[unsafe(no_mangle)]
 pub extern "C" fn daachorse_consume(
     alloc: Global,
@@ -261,14 +245,13 @@ pub extern "C" fn daachorse_consume(
     }
 }
 
-/// Writes the automaton to the beginning of `out`, and to `size` how many bytes that takes.
-///
-/// [`daachorse_read`] reads it back. The bytes are those that the library's `serialize` gives.
+/// Writes the automaton in its written form to the front of `out`, and its length to `size`.
+/// [`daachorse_read`] reads it back.
 ///
 /// # Errors
 ///
-/// The numbers of [`Refusal::EmptyHandle`] and `OutOfMemory`, where 0 is written to `size`; and of `NoRoom`, where
-/// `size` says how much room is needed. Nothing is written to `out` then.
+/// The numbers of [`Refusal::EmptyHandle`] and `OutOfMemory`, with 0 in `size`, and of `NoRoom`,
+/// with the length needed in `size`. Nothing is written to `out` then.
 #[unsafe(no_mangle)]
 pub extern "C" fn daachorse_write(
     alloc: Global,
@@ -294,16 +277,16 @@ pub extern "C" fn daachorse_write(
     }
 }
 
-/// Writes the patterns that the automaton holds to the beginnings of three arrays, in the form in which
-/// [`daachorse_build`] takes them: in byte order, and equal ones as they were registered.
+/// Writes the patterns of the automaton to the fronts of three arrays, in the form that
+/// [`daachorse_build`] takes: in byte order, equal ones in order of registration.
 ///
-/// Pattern `i`, counted from 0, stands in `bytes` between the end before it, or 0, and `ends[i]`, and has the value
-/// `values[i]`. How many bytes they have is written to `size`, and how many they are to `count`.
+/// Pattern `i`, counted from 0, ends at `ends[i]` in `bytes` and has the value `values[i]`. Their
+/// bytes are counted in `size`, and the patterns in `count`.
 ///
 /// # Errors
 ///
-/// The numbers of [`Refusal::EmptyHandle`] and `OutOfMemory`, where 0 is written to `size` and `count`; and of `NoRoom`,
-/// where these say how much room is needed. Nothing is written to the arrays then.
+/// The numbers of [`Refusal::EmptyHandle`] and `OutOfMemory`, with 0 in `size` and `count`, and of
+/// `NoRoom`, with the room needed in both. Nothing is written to the arrays then.
 #[unsafe(no_mangle)]
 pub extern "C" fn daachorse_list(
     alloc: Global,
@@ -332,15 +315,13 @@ pub extern "C" fn daachorse_list(
     }
 }
 
-/// Fills the handle with the automaton that any bytes begin with, and writes to `taken` how many of them it takes.
-///
-/// What [`daachorse_write`] wrote is read back, whatever stands behind it, unless memory lacks. What the handle had is
-/// freed.
+/// Fills the handle with the automaton that `bytes` begin with, frees what it held, and writes the
+/// automaton's length to `taken`. The bytes may be untrusted.
 ///
 /// # Errors
 ///
-/// The numbers of [`Refusal::InvalidAutomaton`], where the bytes do not begin with an automaton, and of `OutOfMemory`.
-/// The handle is then unchanged, and 0 is written to `taken`.
+/// The numbers of [`Refusal::InvalidAutomaton`], if no automaton begins the bytes, and of
+/// `OutOfMemory`. The handle is then unchanged, and `taken` is 0.
 #[unsafe(no_mangle)]
 pub extern "C" fn daachorse_read(
     alloc: Global,
@@ -365,7 +346,7 @@ pub extern "C" fn daachorse_read(
     }
 }
 
-/// Frees what the handle has, if it has something. It is empty then.
+/// Frees what the handle holds, and leaves it empty.
 #[unsafe(no_mangle)]
 pub extern "C" fn daachorse_free(alloc: Global, handle: &mut Handle)
     ensures { IsNone handle.new.automaton }
@@ -373,7 +354,7 @@ pub extern "C" fn daachorse_free(alloc: Global, handle: &mut Handle)
     let _automaton = handle.take(alloc);
 }
 
-/// Writes the first matches of a search, and how many these are.
+/// Writes the first matches of a search, and their number.
 fn write_found(
     alloc: Global,
     handle: &mut Handle,

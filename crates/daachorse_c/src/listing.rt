@@ -1,7 +1,4 @@
-//! The patterns of an automaton, as a build takes them.
-//!
-//! The layers above may rely on these being the listing of the automaton, and on it being copied to three arrays
-//! where there is room for it in each.
+//! The patterns of an automaton, in the form that a build takes.
 
 ghost use Rattle.std.specs.Prelude.{◌≡◌, IfErr, IfOk, OnErr, OnOk};
 ghost use Rattle.daachorse_c.specs.Listing.{ArePatternsOf, LackRoom, StandInFront, arrays, arrays_of, one_more};
@@ -12,23 +9,19 @@ use crate::room::put_in_front;
 use daachorse::DoubleArrayAhoCorasick;
 use std::alloc::Global;
 
-/// The patterns that an automaton holds, each with its value.
+/// The patterns of an automaton, each with its value.
 #[derive(Drop)]
 pub struct Listing {
-    /// The bytes of the patterns, one behind the other.
+    /// The bytes of the patterns, joined.
     pub bytes: Vec<u8, Global>,
-    /// Where each pattern ends in the bytes.
+    /// Where each pattern ends in `bytes`.
     pub ends: Vec<usize, Global>,
-    /// The value of each.
+    /// The value of each pattern.
     pub values: Vec<u32, Global>,
 }
 
 impl Listing {
-    /// Lists the patterns of an automaton in byte order, and equal ones as they were registered.
-    ///
-    /// # Errors
-    ///
-    /// An allocation failed.
+    /// Lists the patterns in byte order, equal ones in order of registration.
     pub(crate) fn new(
         alloc: Global,
         searches: &DoubleArrayAhoCorasick<u32, Global>,
@@ -48,11 +41,7 @@ impl Listing {
         Ok(listing)
     }
 
-    /// Puts a pattern behind the others.
-    ///
-    /// # Errors
-    ///
-    /// An allocation failed. What is listed is then of no use.
+    /// Appends a pattern. After an error the listing is of no use.
     fn push(&mut self, pattern: &[u8], value: u32) -> Result<(), Refusal>
         ensures pushed { OnOk result (arrays_of self.new ≡ one_more (arrays_of self.old) pattern.now value) }
         ensures err { IfErr result (λ r. r ≡ OutOfMemory) }
@@ -63,11 +52,7 @@ impl Listing {
         Ok(())
     }
 
-    /// Copies each list to the beginning of its array.
-    ///
-    /// # Errors
-    ///
-    /// Some array is shorter than its list. Nothing is copied then.
+    /// Copies each list to the front of its array, if there is room in all three.
     pub(crate) fn copy_to_front(
         &self,
         bytes: &mut [u8],

@@ -1,6 +1,4 @@
-//! The patterns that C gives, as one slice of bytes and where each ends in it.
-//!
-//! The layers above may rely on just these patterns, each with its value, in order.
+//! The patterns that C passes: their joined bytes, and where each ends.
 
 ghost use Rattle.std.specs.Prelude.{◌≡◌, ◌⊎◌, IfErr, IfOk};
 ghost use Rattle.daachorse_model.specs.Dictionary.{registrations_of};
@@ -10,11 +8,8 @@ ghost use Rattle.daachorse_c.specs.declared.refusal.Refusal.TheVariants.{OutOfMe
 use crate::refusal::Refusal;
 use std::alloc::Global;
 
-/// The patterns, each with its value. Each begins where the one before it ends.
-///
-/// # Errors
-///
-/// An allocation failed, or the ends and values are not those of patterns in these bytes.
+/// Returns the patterns with their values. Fails if the ends and values do not fit the bytes, or if
+/// an allocation fails.
 pub(crate) fn patterns_in<'a>(
     alloc: Global,
     bytes: &'a [u8],

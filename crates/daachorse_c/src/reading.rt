@@ -1,6 +1,4 @@
-//! The read of an automaton from any bytes.
-//!
-//! The layers above may rely on bytes being refused, memory aside, exactly where they do not begin with an automaton.
+//! Reads an automaton from untrusted bytes.
 
 ghost use Rattle.std.specs.Prelude.{◌≡◌, None, IfErr, IfOk};
 ghost use Rattle.daachorse_c.specs.Written.{IsRead, IsReadCause};
@@ -11,11 +9,8 @@ use daachorse::DoubleArrayAhoCorasick;
 use daachorse::errors::DaachorseError;
 use std::alloc::Global;
 
-/// Reads an automaton, and returns it with how many of the bytes it takes.
-///
-/// # Errors
-///
-/// The bytes do not begin with an automaton, or an allocation failed.
+/// Returns the automaton that the bytes begin with, and its length. Fails if there is none, or if
+/// an allocation fails.
 pub(crate) fn read(alloc: Global, bytes: &[u8]) -> Result<(Box<Searcher, Global>, usize), Refusal>
     ensures read { IfOk result (λ r. IsRead bytes.now r.0.value.searches r.1) }
     ensures stream { IfOk result (λ r. r.0.value.stream ≡ None) }

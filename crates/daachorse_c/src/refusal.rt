@@ -1,6 +1,4 @@
-//! Why a call from C is refused, and the number that it answers then.
-//!
-//! The layers above may rely on each refusal having a number of its own, above 0.
+//! Why a call from C is refused, and the number that it returns then.
 
 ghost use Rattle.std.specs.Prelude.{◌≡◌, ◌<◌};
 ghost use Rattle.daachorse_c.specs.Refusals.{limit_refusal, refusal_number, refusal_of};
@@ -14,34 +12,34 @@ use std::alloc::{AllocError, AllocFailed};
 pub enum Refusal {
     /// An allocation failed.
     OutOfMemory,
-    /// The handle has no automaton.
+    /// The handle is empty.
     EmptyHandle,
-    /// No kind of automaton has the number that was given.
+    /// No kind has the given number.
     UnknownKind,
-    /// The search is not for automata of this kind.
+    /// The search does not serve automata of this kind.
     WrongKind,
-    /// The ends of the patterns fall or pass the bytes, or there is not a value for each.
+    /// The ends decrease or pass the bytes, or are not as many as the values.
     WrongPatterns,
     /// A pattern has more than 4,294,967,295 bytes.
     PatternTooLong,
-    /// More texts begin a pattern than an automaton has states for.
+    /// The patterns have more distinct prefixes than an automaton can have states.
     TooManyStates,
-    /// There are more patterns than an automaton holds.
+    /// There are more patterns than an automaton can hold.
     TooManyPatterns,
     /// The double array would have too many elements.
     TooManyElements,
-    /// The bytes are not those of an automaton.
+    /// The bytes do not begin with an automaton.
     InvalidAutomaton,
-    /// What is to be written is longer than the room for it.
+    /// The output is longer than the room for it.
     NoRoom,
     /// No stream was begun.
     NoStream,
-    /// There are no numbers for the places or the matches of so long a stream.
+    /// An offset in the stream, or the number of its matches, would pass 64 bits.
     StreamTooLong,
 }
 
 impl Refusal {
-    /// The number that a call answers.
+    /// The number that a call returns.
     pub(crate) fn number(self) -> u32
         ensures is { result ≡ refusal_number self }
         ensures above { 0 < result }

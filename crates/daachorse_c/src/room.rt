@@ -1,15 +1,11 @@
-//! Bytes and numbers for C, where there is room for them.
+//! Copies to the fronts of arrays that C owns.
 
 ghost use Rattle.std.specs.Prelude.{◌≡◌, ◌<◌, ◌≤◌, ◌++◌, IfErr, OnErr, OnOk, drop, length};
 ghost use Rattle.daachorse_c.specs.declared.refusal.Refusal.TheVariants.{NoRoom};
 
 use crate::refusal::Refusal;
 
-/// Copies the bytes to the beginning of `out`.
-///
-/// # Errors
-///
-/// They are longer than `out`. Nothing is copied then.
+/// Copies the bytes to the front of `out`, if there is room for all of them.
 pub(crate) fn copy_to_front(bytes: &[u8], out: &mut [u8]) -> Result<(), Refusal>
     ensures copied { OnOk result (out.new ≡ bytes.now ++ drop (length bytes.now) out.old) }
     ensures fits { OnOk result (length bytes.now ≤ length out.old) }
@@ -23,7 +19,7 @@ pub(crate) fn copy_to_front(bytes: &[u8], out: &mut [u8]) -> Result<(), Refusal>
     Ok(())
 }
 
-/// Copies items to the beginning of `out`.
+/// Copies items to the front of `out`.
 pub(crate) fn put_in_front<T: Copy>(items: &[T], out: &mut [T])
     requires { length items.now ≤ length out.old }
     ensures { out.new ≡ items.now ++ drop (length items.now) out.old }

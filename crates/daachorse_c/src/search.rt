@@ -1,6 +1,4 @@
-//! The searches, and for which automata each is.
-//!
-//! The layers above may rely on the answer whether a search is for automata of a kind.
+//! The searches, and which automata each one serves.
 
 ghost use Rattle.std.specs.Prelude.{◌↔◌, IsTrue};
 ghost use Rattle.daachorse_c.specs.Searches.{ServesKind};
@@ -10,18 +8,18 @@ use daachorse::MatchKind;
 /// A search in a haystack.
 #[derive(Clone, Copy, PartialEq, Eq)]
 pub enum SearchKind {
-    /// Matches that do not overlap, each as early as it can end.
+    /// Matches that do not overlap, each ending as early as possible.
     Find,
     /// Every match.
     Overlapping,
     /// The longest match at each end.
     NoSuffix,
-    /// Matches that do not overlap, each as early as it can start.
+    /// Matches that do not overlap, each starting as early as possible.
     Leftmost,
 }
 
 impl SearchKind {
-    /// Whether the search is for automata of this kind.
+    /// Whether the search serves automata of this kind.
     pub(crate) fn is_for(self, kind: MatchKind) -> bool
         ensures { IsTrue result ↔ ServesKind self kind }
     {

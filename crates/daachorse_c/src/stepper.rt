@@ -1,8 +1,4 @@
-//! The steppers of the library as one type.
-//!
-//! The layers above may rely on the matches that end with what a stepper consumed, as it was read, being
-//! written, but for those that were told, and on a stepper going on where another over the same automaton
-//! stood.
+//! The library's two steppers as one type.
 
 ghost use Rattle.std.specs.Prelude.{◌≡◌, ◌<◌, ◌^◌, ◌+◌, [], ◌∷◌, ◌++◌, ℕ, drop, length, option_to_list};
 ghost use Rattle.daachorse_model.specs.declared.MatchKind.TheVariants.{Standard};
@@ -20,7 +16,7 @@ use daachorse_search::overlapping_stepper::OverlappingStanding;
 use std::alloc::Global;
 use std::iter;
 
-/// A search that is given one byte at a time.
+/// A search that is fed one byte at a time.
 #[derive(Drop)]
 pub enum Stepper<'a> {
     /// For matches that do not overlap.
@@ -29,17 +25,17 @@ pub enum Stepper<'a> {
     Overlapping(FindOverlappingStepper<'a, u32>),
 }
 
-/// Where a stepper stands, without the automaton.
+/// A stepper saved without its automaton.
 #[derive(Drop)]
 pub enum Standing {
-    /// That of a search for matches that do not overlap.
+    /// Of a search for matches that do not overlap.
     Find(FindStanding),
-    /// That of a search for all matches.
+    /// Of a search for all matches.
     Overlapping(OverlappingStanding),
 }
 
 impl<'a> Stepper<'a> {
-    /// A stepper that has consumed nothing, for all matches or for those that do not overlap.
+    /// A fresh stepper, for all matches or for those that do not overlap.
     pub(crate) fn new(
         searches: &'a DoubleArrayAhoCorasick<u32, Global>,
         overlapping: bool,
@@ -57,7 +53,7 @@ impl<'a> Stepper<'a> {
         }
     }
 
-    /// A stepper that goes on where one over the same automaton stood.
+    /// Resumes a stepper that was saved over the same automaton.
     pub(crate) fn resume(
         searches: &'a DoubleArrayAhoCorasick<u32, Global>,
         standing: Standing,
@@ -77,7 +73,7 @@ impl<'a> Stepper<'a> {
         }
     }
 
-    /// Where it stands, for [`Self::resume`].
+    /// Saves the stepper for [`Self::resume`].
     pub(crate) fn into_standing(self) -> Standing
         ensures stands { StandsIn (states_in self.entry) result }
         ensures overlaps { overlaps result ≡ overlaps_in self.entry }
@@ -89,7 +85,7 @@ impl<'a> Stepper<'a> {
         }
     }
 
-    /// Consumes one byte, which is read as it is or folded.
+    /// Consumes one byte, folded if the automaton ignores case.
     pub(crate) fn consume(&mut self, byte: u8)
         requires { length (read_in self.old) + 1 < 2 ^ 64 }
         ensures states { states_in self.new ≡ states_in self.old }
@@ -103,8 +99,8 @@ impl<'a> Stepper<'a> {
         }
     }
 
-    /// Writes the matches that end with what was consumed, but for the first `told` of them, as many as
-    /// there is room for, and returns how many these are.
+    /// Writes the matches that end at the current place, without the first `told` of them, as many
+    /// as there is room for, and returns their number.
     pub(crate) fn tell(&self, told: usize, out: &mut [CMatch]) -> usize
         ensures { Writes (drop told (ending_with (overlaps_in self.now) (content (states_in self.now)) (read_in self.now))) out.old out.new result }
     {
@@ -115,7 +111,7 @@ impl<'a> Stepper<'a> {
     }
 }
 
-/// Writes the match, unless there is none, it was told, or there is no room.
+/// Writes the match, unless there is none, it was reported before, or there is no room.
 fn tell_one(found: Option<Match<u32>>, told: usize, out: &mut [CMatch]) -> usize
     ensures { Writes (drop told (option_to_list found)) out.old out.new result }
 {
@@ -129,7 +125,7 @@ fn tell_one(found: Option<Match<u32>>, told: usize, out: &mut [CMatch]) -> usize
 }
 
 impl Standing {
-    /// How many bytes were consumed.
+    /// The number of bytes consumed.
     pub(crate) fn place(&self) -> usize
         requires { (p : Parts ℕ) × StandsIn p self.now }
         ensures { result ≡ length (read_by self.now) }

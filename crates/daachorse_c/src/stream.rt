@@ -1,8 +1,4 @@
 //! A stream: a haystack that comes in pieces.
-//!
-//! The layers above may rely on a stream telling the next of the matches that its search finds in all that
-//! was consumed, as the automaton reads it, and on it consuming what is given to it unless there is no more
-//! room.
 
 ghost use Rattle.std.specs.Prelude.{◌≡◌, ◌↔◌, ◌+◌, ◌<◌, ◌^◌, IsTrue, length};
 ghost use Rattle.daachorse_model.specs.declared.MatchKind.TheVariants.{Standard};
@@ -14,28 +10,28 @@ use crate::stepper::{Standing, Stepper};
 use daachorse::DoubleArrayAhoCorasick;
 use std::alloc::Global;
 
-/// Where a search in a haystack stands that comes in pieces, without the automaton.
+/// A search in a stream, saved between calls without its automaton.
 #[derive(Drop)]
 pub struct Stream {
-    /// Where its stepper stands.
+    /// The saved stepper.
     pub standing: Standing,
-    /// How many of the matches that end there were told.
+    /// How many of the matches that end at the current place were reported.
     pub here: usize,
-    /// How many matches were told.
+    /// How many matches were reported in all.
     pub told: usize,
 }
 
-/// How much a stream did in a call.
+/// What a call did.
 #[derive(Clone, Copy)]
 pub struct Done {
-    /// How many bytes it consumed.
+    /// The number of bytes consumed.
     pub taken: usize,
-    /// How many matches it wrote.
+    /// The number of matches written.
     pub written: usize,
 }
 
 impl Stream {
-    /// A stream that has consumed nothing, for all matches or for those that do not overlap.
+    /// A fresh stream, for all matches or for those that do not overlap.
     pub(crate) fn new(searches: &DoubleArrayAhoCorasick<u32, Global>, overlapping: bool) -> Stream
         requires { kind_of searches.now ≡ Standard }
         ensures goes_on { GoesOnIn searches.now result }
@@ -49,8 +45,7 @@ impl Stream {
         }
     }
 
-    /// Whether places and matches can still be counted when this many bytes come and this many matches are
-    /// told.
+    /// Whether offset and match count still fit a `usize` after so many more bytes and matches.
     pub(crate) fn can_count(
         &self,
         searches: &DoubleArrayAhoCorasick<u32, Global>,
@@ -64,7 +59,7 @@ impl Stream {
         bytes <= usize::MAX - self.standing.place() && room <= usize::MAX - self.told
     }
 
-    /// Consumes bytes while there is room for matches, and writes the next of these.
+    /// Consumes bytes while there is room for matches, and writes these.
     pub(crate) fn consume(
         self,
         searches: &DoubleArrayAhoCorasick<u32, Global>,

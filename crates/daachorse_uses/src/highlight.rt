@@ -1,4 +1,4 @@
-//! Which bytes of a stream lie in a match, told as they come.
+//! Which bytes of a stream lie in a match.
 
 ghost use Rattle.std.specs.Prelude.{◌≡◌, ◌<◌, ℕ, true, false, length, slice_index_or, IfOk, if◌then◌else◌};
 ghost use Rattle.std.specs.Iterator.{IsFinite};
@@ -13,17 +13,8 @@ ghost use Rattle.daachorse_uses.specs.Covered.{AreMarks, FitsIn, is_within};
 use daachorse::{DoubleArrayAhoCorasick, Match};
 use std::alloc::{AllocError, Allocator};
 
-/// A mark for each byte of a stream: whether it lies in a match of the standard search.
-///
-/// The stream is read once, a byte at a time, and only its marks are kept.
-///
-/// # Conditions
-///
-/// The automaton is for the standard searches, and the stream ends.
-///
-/// # Errors
-///
-/// An allocation failed.
+/// Returns for each byte of a stream whether it lies in a match of the standard search. The stream
+/// is read once, and only its marks are kept. Fails if an allocation does.
 pub fn highlight<S: Iterator<Item = u8> + Drop, A: Allocator>(
     alloc: A,
     words: &DoubleArrayAhoCorasick<u32>,
@@ -46,7 +37,6 @@ pub fn highlight<S: Iterator<Item = u8> + Drop, A: Allocator>(
     Ok(marks)
 }
 
-// Marks the bytes of a match.
 fn mark(marks: &mut [bool], found: Match<u32>)
     requires { FitsIn (length marks.old) found }
     ensures { (i : ℕ) → i < length marks.old

@@ -1,7 +1,4 @@
-//! Callers of the automata, proved: small examples of what is known behind a call.
-//!
-//! They take what a search gives by `for`, by `while let` and by `fold`, or give it a stream byte by byte,
-//! and their contracts speak of the whole list. No layer stands on this crate.
+//! Small proved callers of the automata: examples of what is known after a call.
 #![tactic(auto)]
 
 pub mod highlight;

@@ -1,4 +1,4 @@
-//! What a written dictionary has for a text, as the dictionary reads it.
+//! Looks a text up in a written dictionary.
 
 ghost use Rattle.std.specs.Prelude.{◌≡◌, ◌≢◌, ◌⊎◌, ◌++◌, ℕ, List, IfOk, IfErr, slice_get};
 ghost use Rattle.daachorse_model.specs.declared.MatchKind.TheVariants.{Standard};
@@ -11,14 +11,11 @@ ghost use Rattle.daachorse_bytewise.specs.WrittenForms.{IsAutomaton, written_for
 use daachorse::{DoubleArrayAhoCorasick, MatchKind, Result, Serializable};
 use std::alloc::Allocator;
 
-/// The first value that the dictionary in `bytes` has for a text, and `None` where it has none.
+/// Returns the first value that the dictionary in `bytes` has for a text, if any.
 ///
-/// The bytes may come from anywhere, and be of any kind of automaton. The dictionary is dropped again: to
-/// ask more than once, read it once and call [`value_of`].
-///
-/// # Errors
-///
-/// Bytes that give no automaton, told as [`DoubleArrayAhoCorasick::deserialize`] does, or out of memory.
+/// The bytes may be untrusted, and the automaton of any kind. To look up more than once, read the
+/// dictionary once and call [`value_of`]. The errors are those of
+/// [`DoubleArrayAhoCorasick::deserialize`].
 pub fn lookup<V: Serializable + Copy, A: Allocator + Copy>(
     alloc: A,
     bytes: &[u8],
@@ -34,10 +31,8 @@ pub fn lookup<V: Serializable + Copy, A: Allocator + Copy>(
     Ok(value_of(&words, text))
 }
 
-/// The first value that an automaton has for a text, whatever its kind, and `None` where the text is no
-/// pattern of it. Where the automaton disregards the case of ASCII letters, so does this.
-///
-/// It reads the text once, and takes no memory.
+/// Returns the first value that an automaton of any kind has for a text, if that is a pattern. It
+/// reads the text once, and allocates nothing.
 pub fn value_of<V: Copy, A: Allocator>(
     words: &DoubleArrayAhoCorasick<V, A>,
     text: &[u8],
@@ -50,7 +45,7 @@ pub fn value_of<V: Copy, A: Allocator>(
     }
 }
 
-// Of the matches that end with the text the longest starts with it, if the text is a pattern.
+// If the text is a pattern, it is the longest of the matches that end with it, so it starts at 0.
 fn value_at_end<V: Copy, A: Allocator>(
     words: &DoubleArrayAhoCorasick<V, A>,
     text: &[u8],
@@ -68,7 +63,7 @@ fn value_at_end<V: Copy, A: Allocator>(
     }
 }
 
-// The leftmost match of the text is all of it, if the text is a pattern.
+// If the text is a pattern, its leftmost match is all of it.
 fn value_at_start<V: Copy, A: Allocator>(
     words: &DoubleArrayAhoCorasick<V, A>,
     text: &[u8],

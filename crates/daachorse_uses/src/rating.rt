@@ -1,4 +1,4 @@
-//! A value type of one's own: how a word is rated, with the bytes of a rating and their law.
+//! A value type of one's own, with its written form and the law of it.
 
 ghost use Rattle.std.specs.Prelude.{◌≡◌, MatchResult, true, false};
 ghost use Rattle.daachorse_core.specs.declared.errors.DaachorseError.TheVariants.{InvalidConversion};
@@ -16,7 +16,7 @@ pub enum Level {
     Severe,
 }
 
-/// How a word is rated. It can be the value type of an automaton that is written.
+/// The rating of a word. It can be the value type of an automaton that is written.
 #[derive(Clone, Copy, Debug, PartialEq, Eq)]
 pub struct Rating {
     /// How much the word counts.
@@ -26,7 +26,7 @@ pub struct Rating {
 }
 
 impl Level {
-    /// The byte of the level, from 1 to 3.
+    /// The level as a byte, from 1 to 3.
     fn byte(self) -> u8
         ensures { result ≡ byte_of self }
     {
@@ -37,11 +37,7 @@ impl Level {
         }
     }
 
-    /// The level of a byte.
-    ///
-    /// # Errors
-    ///
-    /// A byte that is no level's.
+    /// The level of a byte. Fails if the byte is no level's.
     fn from_byte(byte: u8) -> Result<Self>
         ensures { MatchResult result (λ level. (is_level byte ≡ true) × (level ≡ level_of byte)) (λ e. (is_level byte ≡ false) × (e ≡ InvalidConversion (record {}))) }
     {
@@ -54,7 +50,7 @@ impl Level {
     }
 }
 
-/// The weight as two bytes, then the level as one. A byte that is no level's is refused by
+/// The weight in two bytes, then the level in one. A byte that is no level's is refused with
 /// [`DaachorseError::InvalidConversion`].
 impl Serializable for Rating {
     ghost is_value = { IsRating };

@@ -1,4 +1,4 @@
-//! A text with what matches struck out.
+//! A text with its matches struck out.
 
 ghost use Rattle.std.specs.Prelude.{◌≡◌, ◌≢◌, ◌<◌, ℕ, length, slice_index, if◌then◌else◌};
 ghost use Rattle.daachorse_model.specs.declared.MatchKind.TheVariants.{Standard};
@@ -10,12 +10,7 @@ ghost use Rattle.daachorse_uses.specs.Covered.{is_covered};
 
 use daachorse::DoubleArrayAhoCorasick;
 
-/// Copies a text to `out`, with a star in place of each byte that lies in a leftmost match. Every other
-/// byte stays as it is, also where the automaton disregards the case of ASCII letters.
-///
-/// # Conditions
-///
-/// The automaton is for a leftmost search, and `out` is as long as the text.
+/// Copies a text to `out`, of the same length, with a star for each byte in a leftmost match.
 pub fn redact(words: &DoubleArrayAhoCorasick<u32>, text: &[u8], out: &mut [u8])
     requires leftmost { kind_of words.now ≢ Standard }
     requires room { length out.old ≡ length text.now }

@@ -1,7 +1,7 @@
-//! A stream of bytes with what matches struck out, written as it comes.
+//! A stream of bytes with its matches struck out, written as it comes.
 //!
-//! What lies further back than a stepper's depth can be in no later match, so it goes out at once: the
-//! memory is bounded by the longest pattern, however long the stream is.
+//! Bytes further back than the stepper's depth are in no later match, so they are written at once,
+//! and the longest pattern bounds the memory.
 
 ghost use Rattle.std.specs.Prelude.{◌≡◌, ◌≢◌, ◌≤◌, ◌<◌, ◌+◌, ◌-◌, ◌^◌, ℕ, List, [], ◌∷◌, ◌++◌, length, take, IfOk, IfSome, None, OnErr, OnOk};
 ghost use Rattle.std.specs.VecDeque.{deque_capacity};
@@ -22,22 +22,15 @@ use std::collections::VecDeque;
 use std::io::{self, ErrorKind, Write};
 use std::marker::Model;
 
-/// Writes what a source of bytes gives, with the mask in place of each match of the standard search. An
-/// empty mask drops the matches. Every other byte goes out as it came, also where the automaton disregards
-/// the case of ASCII letters.
+/// Writes the bytes of `source` with `mask` in place of each match of the standard search. Bytes
+/// outside matches are unchanged, even if the automaton ignores case.
 ///
-/// The source is read once. Where the automaton has its depths cached, what is held of it is bounded by
-/// the longest pattern and the mask, however long the source is. The bytes are written one at a time, so
-/// give it a writer with a buffer. The writer is not flushed.
-///
-/// # Conditions
-///
-/// The automaton is for the standard searches. The source ends, within `usize::MAX` bytes.
+/// With cached depths, the longest pattern and the mask bound the memory. Bytes are written one at
+/// a time, so `out` should have a buffer. It is not flushed.
 ///
 /// # Errors
 ///
-/// An allocation failed, or the writer: what it took then is a beginning of the redacted text of what was
-/// read.
+/// An allocation or a write failed. The writer took a prefix of the redacted text of what was read.
 pub fn redact_source<S: Iterator<Item = u8> + Drop, A: Allocator, W: Write>(
     alloc: A,
     words: &DoubleArrayAhoCorasick<u32>,
@@ -60,17 +53,15 @@ pub fn redact_source<S: Iterator<Item = u8> + Drop, A: Allocator, W: Write>(
     redactor.finish(out)
 }
 
-/// A text that is redacted as its bytes come: [`Self::push`] reads a byte, [`Self::send`] writes what can be
-/// in no later match, and [`Self::finish`] writes the rest.
-///
-/// What was written with what is still held is at any time the redacted text of the bytes that were read.
+/// Redacts a text as it comes: [`Self::push`] reads a byte, [`Self::send`] writes what can be in no
+/// later match, and [`Self::finish`] writes the rest.
 #[derive(Drop)]
 pub struct Redactor<'a, A: Allocator> {
     stepper: FindStepper<'a, u32>,
-    // The bytes as they came. The stepper knows them as it read them.
+    // The bytes as they came; the stepper may have read them folded.
     came: Seen,
     mask: &'a [u8],
-    // What of the redacted text is not written yet.
+    // Redacted text that is not written yet.
     held: VecDeque<u8, A>,
 }
 
@@ -95,16 +86,8 @@ impl<'a, A: Allocator> Model for Redactor<'a, A> {
 }
 
 impl<'a, A: Allocator> Redactor<'a, A> {
-    /// A redactor that has read nothing.
-    ///
-    /// # Conditions
-    ///
-    /// The automaton is for the standard searches. Its depths are best cached: without them what was read
-    /// since the last match is held.
-    ///
-    /// # Errors
-    ///
-    /// An allocation failed.
+    /// A redactor that has read nothing. Without cached depths it holds all bytes since the last
+    /// match.
     pub fn new(
         alloc: A,
         words: &'a DoubleArrayAhoCorasick<u32>,
@@ -132,15 +115,7 @@ impl<'a, A: Allocator> Redactor<'a, A> {
         })
     }
 
-    /// Reads one byte. Nothing is written.
-    ///
-    /// # Conditions
-    ///
-    /// So many bytes fit a `usize`.
-    ///
-    /// # Errors
-    ///
-    /// An allocation failed, and the byte was not read.
+    /// Reads one byte. If an allocation fails, the byte was not read.
     pub fn push(&mut self, byte: u8) -> Result<(), AllocError>
         requires { length self.old.read + 1 < 2 ^ 64 }
         ensures words { self.new.words ≡ self.old.words }
@@ -159,12 +134,10 @@ impl<'a, A: Allocator> Redactor<'a, A> {
 
     /// Writes what can be in no later match.
     ///
-    /// Where the depths are cached, no more is held then than the longest pattern has bytes.
-    ///
     /// # Errors
     ///
-    /// The writer's first error, and [`WriteZero`](std::io::ErrorKind::WriteZero) where it takes nothing.
-    /// What it did not take is still held, and a later call goes on with it.
+    /// The writer's first error, or [`WriteZero`](std::io::ErrorKind::WriteZero) if it takes
+    /// nothing. What it did not take is still held, and a later call continues with it.
     pub fn send<W: Write>(&mut self, out: &mut W) -> io::Result<()>
         ensures words { self.new.words ≡ self.old.words }
         ensures mask { self.new.mask ≡ self.old.mask }
@@ -179,11 +152,7 @@ impl<'a, A: Allocator> Redactor<'a, A> {
         send_all_but(&mut self.held, open, out)
     }
 
-    /// Writes what is held, at the end of the text.
-    ///
-    /// # Errors
-    ///
-    /// As of [`Self::send`].
+    /// Writes what is held, at the end of the text. The errors are those of [`Self::send`].
     pub fn finish<W: Write>(mut self, out: &mut W) -> io::Result<()>
         ensures whole { OnOk result (Appends (W.contents out.old) (W.contents out.new) self.entry.held) }
         ensures beginning { OnErr result (AppendsBeginning (W.contents out.old) (W.contents out.new) self.entry.held) }
@@ -192,7 +161,7 @@ impl<'a, A: Allocator> Redactor<'a, A> {
     }
 }
 
-// Puts a byte behind what is held, and then the mask in the place of the match that ends with the byte.
+// Appends a byte, then puts the mask in place of the match that ends with it.
 fn hold<A: Allocator>(held: &mut VecDeque<u8, A>, byte: u8, ended: Option<Match<u32>>, mask: &[u8])
     requires room { length held.old.items + 1 + length mask.now ≤ deque_capacity held.old }
     requires within { IfSome ended (λ m. (m.start ≤ m.end) × (m.end - m.start ≤ length (held.old.items ++ byte ∷ []))) }
@@ -208,7 +177,7 @@ fn hold<A: Allocator>(held: &mut VecDeque<u8, A>, byte: u8, ended: Option<Match<
     }
 }
 
-// Writes what is held, but for the last bytes.
+// Writes what is held, but for the last `keep` bytes.
 fn send_all_but<W: Write, A: Allocator>(
     held: &mut VecDeque<u8, A>,
     keep: usize,

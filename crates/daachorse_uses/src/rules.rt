@@ -1,4 +1,4 @@
-//! How often the rules of a set match in a line of a log, and within which bound on the work.
+//! How often the rules of a set match in a line of a log.
 
 ghost use Rattle.std.specs.Prelude.{◌≡◌, ◌==◌, ◌+◌, ◌*◌, ◌<◌, ◌≤◌, ◌^◌, ◌-◌, ℕ, count_by, length, min, slice_index};
 ghost use Rattle.daachorse_model.specs.declared.MatchKind.TheVariants.{Standard};
@@ -10,11 +10,7 @@ ghost use Rattle.daachorse_bytewise.specs.Automata.{dictionary_of, kind_of};
 use daachorse::DoubleArrayAhoCorasick;
 use daachorse::bytewise::iter::FindOverlappingSliceIterator;
 
-/// How often a rule matches in a line, also where its matches overlap: `u64::MAX` where it is more.
-///
-/// # Conditions
-///
-/// The automaton is for the standard searches.
+/// Returns how often a rule matches in a line, overlapping matches included, up to `u64::MAX`.
 pub fn count_rule(rules: &DoubleArrayAhoCorasick<u32>, line: &[u8], rule: u32) -> u64
     requires { kind_of rules.now ≡ Standard }
     ensures { result ≡ min (count_by (λ m. m.value == rule) (overlapping byte_width (dictionary_of rules.now) (as_read rules.now.folds line.now))) (2 ^ 64 - 1) }
@@ -28,11 +24,9 @@ pub fn count_rule(rules: &DoubleArrayAhoCorasick<u32>, line: &[u8], rule: u32) -
     count
 }
 
-/// Adds to the counter of each rule how often the rule matches in what a search has left: `u64::MAX`
-/// where it is more. A rule that has no counter is passed over.
-///
-/// The search goes on to its end. Up to there it took at most two looks at the automaton for each
-/// byte of its haystack, whatever the rules are.
+/// Adds to each rule's counter how often the rule matches in the rest of a search, up to
+/// `u64::MAX`. Rules with no counter are skipped. The search looks at no more than two states for
+/// each byte of its haystack.
 pub fn count_each<'a>(search: &mut FindOverlappingSliceIterator<'a, u32>, counts: &mut [u64])
     ensures counts { (rule : ℕ) → rule < length counts.old → slice_index counts.new rule
         ≡ min (slice_index counts.old rule + count_by (λ m. m.value == rule) search.old.left) (2 ^ 64 - 1) }

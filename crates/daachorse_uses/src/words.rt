@@ -1,4 +1,4 @@
-//! What the tokens of a text say of it.
+//! Counts the words of a text, and measures its longest token.
 
 ghost use Rattle.std.specs.Prelude.{◌≡◌, count_by, fold, length, map, max};
 ghost use Rattle.std.specs.Option.{is_some};
@@ -7,7 +7,7 @@ ghost use Rattle.daactok.specs.Tokens.{tokens};
 
 use daactok::Tokenizer;
 
-/// How many tokens of a text are words of the dictionary.
+/// Returns how many tokens of a text are words of the dictionary.
 pub fn count_words<V: Copy>(tokenizer: &Tokenizer<V>, text: &str) -> usize
     ensures { result ≡ count_by (λ t. is_some t.value) (tokens tokenizer.now.folds (dictionary_of tokenizer.now) text.now) }
 {
@@ -20,7 +20,7 @@ pub fn count_words<V: Copy>(tokenizer: &Tokenizer<V>, text: &str) -> usize
     words
 }
 
-/// How many bytes the longest token has, and 0 where there is none.
+/// Returns the length of the longest token in bytes, or 0 if there is none.
 pub fn longest_token<V: Copy>(tokenizer: &Tokenizer<V>, text: &str) -> usize
     ensures { result ≡ fold max 0 (map (λ t. length t.text) (tokens tokenizer.now.folds (dictionary_of tokenizer.now) text.now)) }
 {

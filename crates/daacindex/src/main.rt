@@ -1,5 +1,5 @@
-//! Writes the automaton of many patterns, and finds them by it in a file, each match on a line: its start,
-//! its end and the number of its pattern.
+//! Writes an automaton of many patterns, and finds these with it in a file: each match is a line
+//! with its start, its end and the number of its pattern.
 #![tactic(auto)]
 
 use daacfind_command::inputs::FileInputs;
@@ -20,7 +20,7 @@ fn main(rt: HostRuntime) -> ExitCode {
     }
 }
 
-// The status of the command with the program's own arguments, files and streams.
+// Runs the command with the program's own arguments, files and streams.
 fn status(rt: &HostRuntime) -> Result<u8, DaachorseError> {
     let out = BufWriter::new(rt.alloc(), io::writer(rt)).map_err(|_| AllocError)?;
     let status = run_program(

@@ -1,4 +1,4 @@
-//! The command: from arguments to a status, and to a line on standard error where it fails.
+//! The command: from arguments to a status, and to a line on standard error if it fails.
 
 use crate::written::{IndexError, run_written, write};
 use daacfind_command::inputs::{Arguments, Inputs};
@@ -20,11 +20,8 @@ enum CommandError<'a> {
     Index(#[from] IndexError),
 }
 
-/// Runs the command with the program's arguments, as [`command`] does, and returns its status.
-///
-/// # Errors
-///
-/// An allocation failed while the arguments were read.
+/// Runs [`command`] with the program's arguments, and returns its status. Fails if reading them
+/// runs out of memory.
 pub fn run_program<R: Env, I: Inputs, S: Sink, E: Sink>(
     env: &R,
     alloc: Global,
@@ -37,15 +34,12 @@ pub fn run_program<R: Env, I: Inputs, S: Sink, E: Sink>(
     Ok(command(alloc, &texts, files, out, err))
 }
 
-/// Runs the command, and returns its status.
+/// Runs the command, and returns its status: 0 if all was written, 2 after wrong usage, else 1.
 ///
-/// The arguments are `write`, a mode and the name of a file of patterns, one a line, and the automaton
-/// goes to `out`; or `search`, a mode and the names of two files, of an automaton that was written and of
-/// the haystack, and the matches go to `out`. An argument that is not UTF-8 is `None`. Status 0 says that
-/// all was written. Otherwise a line on `err` tells the cause: the usage, with status 2, where the
-/// arguments are none of these, and nothing was read then; else, with status 1, a file that could not be
-/// read, the refusal of a build or of an automaton, or a failure to write. A failure of `err` is passed
-/// over.
+/// The arguments are `write`, a mode and a file of patterns, one a line; or `search`, a mode, a
+/// file with a written automaton, and a haystack. An argument that is not UTF-8 is `None`. The
+/// automaton or the matches go to `out`. If it fails, a line on `err` gives the cause; after wrong
+/// usage nothing was read. A failure of `err` is ignored.
 pub fn command<A: Allocator + Copy, I: Inputs, S: Sink, E: Sink>(
     alloc: A,
     args: &[Option<&str>],

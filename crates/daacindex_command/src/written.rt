@@ -1,8 +1,4 @@
-//! Automata that one run writes, and others read and search with.
-//!
-//! The layers above may rely on [`write`] writing the written form of the automaton of a pattern file,
-//! and on [`run_written`] writing the text of the mode's matches for any bytes that begin with an automaton
-//! of the mode's kind. It refuses all others.
+//! Automata that one run writes and others search with.
 
 ghost use Rattle.std.specs.Prelude.{◌≡◌, ◌⊎◌, ◌+◌, ℕ, List, IfErr, OnOk};
 ghost use Rattle.std.specs.Int.{w32};
@@ -25,13 +21,13 @@ use daachorse::errors::DaachorseError;
 use std::alloc::Allocator;
 use thiserror::Error;
 
-/// Why an automaton was not written, or not searched by.
+/// Why an automaton was not written, or not searched with.
 #[derive(Debug, Drop, Error)]
 pub enum IndexError {
-    /// The build refused the patterns, the bytes do not begin with an automaton, or memory was refused.
+    /// The build refused the patterns, no automaton begins the bytes, or an allocation failed.
     #[error(transparent)]
     Refused(DaachorseError),
-    /// The automaton is for searches of another kind than the mode's.
+    /// The automaton is not of the mode's kind.
     #[error("daacindex: the automaton is for another kind of search")]
     Kind,
     /// The sink failed.
@@ -59,15 +55,13 @@ impl From<SinkError> for IndexError {
     }
 }
 
-/// Writes the automaton of the patterns, which are the lines of `patterns`, for searches of the mode.
-///
-/// [`run_written`] finds with it what [`run`](daacfind_command::run::run) finds. The sink is flushed once, at the end.
+/// Writes the automaton of the lines of `patterns`, for searches of the mode, and flushes the sink.
 ///
 /// # Errors
 ///
-/// [`IndexError::Refused`] where the build refuses the patterns, or memory is refused, and nothing was written
-/// then. [`IndexError::Write`] where the sink failed: a beginning of the automaton was written, and all of it
-/// where only the flush failed.
+/// [`IndexError::Refused`] if the build refuses the patterns, or an allocation fails; nothing was
+/// written then. [`IndexError::Write`] if the sink fails; a prefix of the automaton was written, or
+/// all of it if only the flush failed.
 pub fn write<S: Sink, A: Allocator + Copy>(
     alloc: A,
     mode: Mode,
@@ -90,16 +84,15 @@ pub fn write<S: Sink, A: Allocator + Copy>(
     Ok(())
 }
 
-/// Writes the matches in `haystack` of the patterns of an automaton, which the bytes begin with.
-///
-/// They are written as [`run`](daacfind_command::run::run) writes them. What follows the automaton is passed over.
+/// Writes the matches in `haystack` of the automaton that the bytes begin with, as
+/// [`run`](daacfind_command::run::run) writes them. What follows the automaton is ignored.
 ///
 /// # Errors
 ///
-/// [`IndexError::Refused`] where the bytes begin with no automaton, or memory is refused, and
-/// [`IndexError::Kind`] where it is not for searches of the mode; nothing was written then.
-/// [`IndexError::Write`] where the sink failed: a beginning of the text was written, and all of it
-/// where only the flush failed.
+/// [`IndexError::Refused`] if the bytes begin with no automaton, or an allocation fails, and
+/// [`IndexError::Kind`] if it is not of the mode's kind; nothing was written then.
+/// [`IndexError::Write`] if the sink fails; a prefix of the text was written, or all of it if only
+/// the flush failed.
 pub fn run_written<S: Sink, A: Allocator + Copy>(
     alloc: A,
     mode: Mode,
@@ -116,7 +109,7 @@ pub fn run_written<S: Sink, A: Allocator + Copy>(
     ensures kind { IfErr result (λ e. OnKind e (IsOfAnotherKind mode automaton.now)) }
     ensures unwritten { IfErr result (λ e. OnRefusal e (Keeps (S.taken out.old) (S.taken out.new))) }
     ensures untried { IfErr result (λ e. OnRefusal e (S.failures out.new ≡ S.failures out.old)) }
-    // Of what was written.
+    // For an automaton that `write` wrote.
     ensures back { OnOk result ((patterns : List ℕ) → BeginsWithForm mode patterns automaton.now → Appends (S.taken out.old) (S.taken out.new) (text_of_mode mode patterns haystack.now)) }
     ensures memory { IfErr result (λ e. (patterns : List ℕ) → BeginsWithForm mode patterns automaton.now → IfRefused e IsOutOfMemory × OnKind e ⊥) }
 {

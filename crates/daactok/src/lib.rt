@@ -1,14 +1,10 @@
 //! A tokenizer: it cuts a text into the words of a dictionary and what stands between them.
 //!
-//! It is an example of a crate over the automaton over characters, and takes from it the leftmost
-//! search and the kind of searches alone. The layers above may rely on the whole list of tokens,
-//! and on the tokens' texts, joined, being the text, also where the automaton disregards the case of
-//! ASCII letters. The program `quick_start` runs this:
-//!
 //! ```
 //! let builder = CharwiseDoubleArrayAhoCorasickBuilder::new();
 //! let builder = builder.match_kind(MatchKind::LeftmostLongest);
-//! let words: CharwiseDoubleArrayAhoCorasick<u32> = builder.build(rt.alloc(), ["東京", "京都", "東京都"])?;
+//! let words = ["東京", "京都", "東京都"];
+//! let words: CharwiseDoubleArrayAhoCorasick<u32> = builder.build(rt.alloc(), words)?;
 //! let tokenizer = Tokenizer::new(&words)?;
 //! for token in tokenizer.tokens("東京都に") {
 //!     // 東京都 from 0 to 9 with the value 2, then に from 9 to 12 with none
@@ -31,24 +27,24 @@ use std::alloc::{Allocator, Global};
 use std::marker::Model;
 use thiserror::Error;
 
-/// Why a dictionary cannot cut texts.
+/// Why a dictionary cannot be used to cut texts.
 #[derive(Clone, Copy, Debug, PartialEq, Eq, Error)]
 pub enum TokenizerError {
-    /// The empty text is a word of the dictionary, and would be found everywhere.
+    /// The empty text is a word, which would match everywhere.
     #[error("EmptyPattern: the dictionary holds the empty pattern")]
     EmptyPattern,
 }
 
-/// A part of a text: a word of the dictionary, or what stands between two of them.
+/// A part of a text: a word of the dictionary, or a stretch between two words.
 #[derive(Clone, Copy, Debug, PartialEq, Eq)]
 pub struct Token<'a, V> {
     /// The part itself.
     pub text: &'a str,
-    /// Where it starts, in bytes.
+    /// The byte offset where it starts.
     pub start: usize,
-    /// Where it ends, in bytes: one past its last.
+    /// The offset after its last byte.
     pub end: usize,
-    /// The value of the word, or `None` where the dictionary has no such word.
+    /// The value of the word, or `None` if the part is no word.
     pub value: Option<V>,
 }
 
@@ -71,18 +67,8 @@ impl<'a, V: Copy, A: Allocator> Model for Tokenizer<'a, V, A> {
 }
 
 impl<'a, V: Copy, A: Allocator> Tokenizer<'a, V, A> {
-    /// A tokenizer for the words that the automaton holds. The automaton's kind says which of the
-    /// words that start at one place is taken.
-    ///
-    /// # Conditions
-    ///
-    /// The automaton is for a leftmost search: its kind is not [`MatchKind::Standard`].
-    ///
-    /// # Errors
-    ///
-    /// [`TokenizerError::EmptyPattern`] where the empty text is a word.
-    ///
-    /// [`MatchKind::Standard`]: daachorse::MatchKind::Standard
+    /// Makes a tokenizer for the words that the automaton holds. Its kind must be a leftmost one,
+    /// and decides between words that start at the same place. Fails if the empty text is a word.
     pub fn new(words: &'a CharwiseDoubleArrayAhoCorasick<V, A>) -> Result<Self, TokenizerError>
         requires { kind_of words.now ≢ Standard }
         ensures { OkIff result (dictionary_of words.entry.now [] ≡ []) words.entry.now }
@@ -93,9 +79,8 @@ impl<'a, V: Copy, A: Allocator> Tokenizer<'a, V, A> {
         }
     }
 
-    /// Cuts a text into tokens: the leftmost matches, each with its value, and in each nonempty
-    /// stretch before, between and after them one token with no value. Where the automaton disregards the
-    /// case of ASCII letters, so does the cut, and each token has the text as it was given.
+    /// Cuts a text into tokens: the leftmost matches, and the nonempty stretches between them, with
+    /// no value. Tokens keep the case of the text, even if the automaton ignores it.
     #[inline]
     pub fn tokens(&self, text: &'a str) -> Tokens<'a, V, A>
         ensures list { result ≡ tokens self.entry.now.folds (dictionary_of self.entry.now) text.entry.now }
@@ -113,13 +98,13 @@ impl<'a, V: Copy, A: Allocator> Tokenizer<'a, V, A> {
     }
 }
 
-/// The tokens of a text, in order. No call takes memory.
+/// The tokens of a text, in order. It allocates nothing.
 #[derive(Drop)]
 pub struct Tokens<'a, V: Copy, A: Allocator = Global> {
     text: &'a str,
     // Where the next token starts.
     place: usize,
-    // The match that is the next known token, where it was found already.
+    // The next match, if it was found already.
     known: Option<Match<V>>,
     matches: LeftmostFindIterator<'a, V, A>,
 }
@@ -167,7 +152,7 @@ impl<'a, V: Copy, A: Allocator> Iterator for Tokens<'a, V, A> {
     }
 }
 
-// Takes the next match, unless one was taken already.
+// Finds the next match, unless it was found already.
 #[inline(always)]
 fn find_known<'a, V: Copy, A: Allocator>(
     known: &mut Option<Match<V>>,
@@ -181,7 +166,6 @@ fn find_known<'a, V: Copy, A: Allocator>(
     }
 }
 
-// The part of the text from `start` to `end`.
 #[inline(always)]
 fn part<V: Copy>(text: &str, start: usize, end: usize, value: Option<V>) -> Token<'_, V>
     requires ordered { start ≤ end }

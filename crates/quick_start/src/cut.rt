@@ -1,4 +1,4 @@
-//! A text as the words of a dictionary, and what stands between them.
+//! Cuts a text into the words of a dictionary and what stands between them.
 
 ghost use Rattle.std.specs.Prelude.{◌≡◌, IfOk};
 ghost use Rattle.daachorse_model.specs.declared.MatchKind.TheVariants.{LeftmostLongest};
@@ -10,7 +10,7 @@ use daactok::{Token, Tokenizer};
 use std::alloc::Global;
 use std::io;
 
-/// The dictionary of three words.
+/// A dictionary of three words.
 fn dictionary(alloc: Global) -> Result<CharwiseDoubleArrayAhoCorasick<u32>, DaachorseError>
     ensures { IfOk result (λ words. kind_of words ≡ LeftmostLongest) }
 {
@@ -19,7 +19,7 @@ fn dictionary(alloc: Global) -> Result<CharwiseDoubleArrayAhoCorasick<u32>, Daac
     builder.build(alloc, ["東京", "京都", "東京都"])
 }
 
-/// Writes the text, the start, the end and the value of a token on a line.
+/// Writes a token on a line: its text, start, end and value.
 fn write(rt: &HostRuntime, token: &Token<'_, u32>) -> io::Result<()> {
     println!(rt;
         "{} {} {} {:?}",

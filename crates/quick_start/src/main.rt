@@ -1,4 +1,4 @@
-//! The program of the README, and behind it that of the tokenizer's documentation.
+//! The program of the README, then that of the tokenizer's documentation.
 #![tactic(auto)]
 
 mod cut;

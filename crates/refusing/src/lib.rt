@@ -1,10 +1,8 @@
-//! An allocator for tests, which refuses one request, chosen by its number, or all that are too large.
+//! An allocator for tests that refuses one request, chosen by its number, or all large ones.
 //!
-//! A test runs a call over `Refusing::new(rt.alloc(), n)` for each `n` in turn, until a run meets
-//! no refusal: so each growth of the call is refused once, as [`each_request`] does. The allocator
-//! is shared as a reference, `&Refusing<Global>`, which is `Copy`. That the blocks are those of the
-//! inner allocator is proved. Which request is refused is tested, since no contract can say what a
-//! cell holds.
+//! [`each_request`] refuses each request of a call in turn. The allocator is shared as
+//! `&Refusing<Global>`, which is `Copy`. Its blocks are proved to be those of the inner allocator.
+//! Which request is refused is only tested, since no contract can say what a cell holds.
 #![tactic(auto)]
 
 use std::alloc::{AllocError, Allocator, Global};
@@ -13,22 +11,22 @@ use std::cell::Cell;
 /// Which requests are refused.
 #[derive(Clone, Copy)]
 enum Rule {
-    /// The one that so many others come before.
+    /// The one after so many others.
     After(u64),
-    /// None any more.
+    /// No further one.
     Done,
-    /// Those for more bytes.
+    /// Those for more bytes than this.
     Above(usize),
 }
 
-/// An allocator that passes requests on to the inner one, but refuses some of them.
+/// An allocator that refuses some requests and passes the others on.
 pub struct Refusing<B: Allocator> {
     inner: B,
     rule: Cell<Rule>,
 }
 
 impl<B: Allocator> Refusing<B> {
-    /// Refuses request number `number`, counted from 0, and no other. A growth is one request.
+    /// Refuses only request number `number`, counted from 0. A growth is one request.
     pub fn new(inner: B, number: u64) -> Refusing<B> {
         Refusing {
             inner,
@@ -36,7 +34,7 @@ impl<B: Allocator> Refusing<B> {
         }
     }
 
-    /// Refuses each request for more than `most` bytes, and no other.
+    /// Refuses only the requests for more than `most` bytes.
     pub fn above(inner: B, most: usize) -> Refusing<B> {
         Refusing {
             inner,
@@ -44,7 +42,7 @@ impl<B: Allocator> Refusing<B> {
         }
     }
 
-    /// Whether the request that was chosen by its number came, and was refused.
+    /// Whether the request that was chosen by its number was refused.
     pub fn has_refused(&self) -> bool {
         matches!(self.rule.get(), Rule::Done)
     }
@@ -56,7 +54,7 @@ impl<B: Allocator> Drop for Refusing<B> {
     }
 }
 
-// Counts a request for so many bytes, and says whether it is one to refuse.
+// Counts a request for so many bytes, and returns whether to refuse it.
 fn refuses(rule: &Cell<Rule>, size: usize) -> bool {
     match rule.get() {
         Rule::After(0) => {
@@ -87,7 +85,7 @@ unsafe impl<B: Allocator> Allocator for Refusing<B> {
     }
 }
 
-/// What came of a call that may lack memory.
+/// The outcome of a call that may run out of memory.
 #[derive(Clone, Copy, PartialEq, Eq, Debug, Drop)]
 pub enum Answer {
     Right,
@@ -95,14 +93,14 @@ pub enum Answer {
     Wrong,
 }
 
-/// A call that asks for memory.
+/// A call that allocates.
 pub trait Call {
-    /// Makes the call with this memory: right as it is meant to be, refused for want of memory with
-    /// everything left as it should be, or else wrong.
+    /// Makes the call with this memory. `Refused` means that it ran out of memory, and left all
+    /// else as it should be.
     fn answer(&self, heap: &Refusing<Global>) -> Answer;
 }
 
-/// Whether a call is refused at each request in turn, and right where none is refused.
+/// Whether a call is refused at each request in turn, and right if none is refused.
 pub fn each_request<C: Call>(alloc: Global, call: &C) -> bool {
     for number in 0..100_000u64 {
         let heap = Refusing::new(alloc, number);

@@ -13,7 +13,7 @@ TIMES = 10
 
 
 def seconds(words, text, out):
-    """How long one run of the command takes. To /dev/null it would stop at the first match."""
+    """The time of one run of the command, to a file: to /dev/null it stops at the first match."""
     out.seek(0)
     out.truncate()
     began = time.perf_counter()

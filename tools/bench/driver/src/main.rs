@@ -1,11 +1,11 @@
 //! Times and counts the automata of this repository beside those of the Rust crate.
 //!
-//! `driver time UNIT WORDS TEXT ROUNDS MODES BUILDS` prints the least and the median of the rounds of
-//! each mode of `MODES`, and of the builds for each of `BUILDS`; either is a list of names with a space
-//! between two. `driver rounds UNIT MODE WORDS TEXT BYTES OURS THEIRS` and
-//! `driver builds UNIT MODE WORDS OURS THEIRS` do so many rounds or builds of either and print
-//! nothing but what they found: they are for counting instructions. `UNIT` is `bytes` or `chars`.
-//! With `FILTER` in the environment the filter of places of both sides is on.
+//! `driver time UNIT WORDS TEXT ROUNDS MODES BUILDS` prints the least and the median time of the
+//! rounds of each mode of `MODES`, and of the builds of each of `BUILDS`; names are separated by
+//! spaces. `driver rounds UNIT MODE WORDS TEXT BYTES OURS THEIRS` and
+//! `driver builds UNIT MODE WORDS OURS THEIRS` do so many rounds or builds of either side, for
+//! counting instructions, and print only their results. `UNIT` is `bytes` or `chars`. With `FILTER`
+//! in the environment the prefilter of both sides is on.
 
 mod ours;
 mod theirs;
@@ -13,14 +13,14 @@ mod theirs;
 use std::time::Duration;
 use theirs::{Mode, Unit};
 
-/// What a round found.
+/// The result of a round.
 #[derive(Clone, Copy, Debug, Default, PartialEq, Eq)]
 pub struct Tally {
     pub count: u64,
     pub sum: u64,
 }
 
-/// A list of words, as it is handed to either side.
+/// A list of words, as it is passed to either side.
 pub struct Words {
     bytes: Vec<u8>,
     ends: Vec<u32>,
@@ -81,7 +81,7 @@ fn print_line(name: &str, bytes: usize, ours: Vec<Duration>, theirs: Vec<Duratio
     );
 }
 
-/// Whether the filter of places of both sides is on.
+/// Whether the prefilter of both sides is on.
 fn filter() -> bool {
     std::env::var_os("FILTER").is_some()
 }
@@ -140,7 +140,7 @@ fn builds(words: &Words, unit: Unit, mode: Mode, ours: u32, theirs: u32) {
     }
 }
 
-/// The first bytes of a text, at most so many, that are whole characters.
+/// The longest prefix of a text that has at most so many bytes and whole characters.
 fn beginning(text: &[u8], bytes: usize) -> &[u8] {
     let mut end = text.len().min(bytes);
     while end < text.len() && text[end] & 0xc0 == 0x80 {

@@ -1,4 +1,4 @@
-//! This repository's side: one call that builds and searches, and marks each beginning and end.
+//! This repository's side: one call that builds and searches, with marks at each beginning and end.
 
 use crate::theirs::{self, Automaton, Mode, Unit};
 use crate::{Tally, Words};
@@ -21,14 +21,14 @@ unsafe extern "C" {
     ) -> i32;
 }
 
-/// How long each round or build took.
+/// The time of each round or build.
 #[derive(Default)]
 pub struct Times {
     pub ours: Vec<Duration>,
     pub theirs: Vec<Duration>,
 }
 
-/// What goes on at the marks.
+/// What happens at the marks.
 struct Marks {
     beside: Option<Beside>,
     began: Instant,
@@ -67,7 +67,7 @@ impl Marks {
         }
     }
 
-    /// Ours begins; of two rounds theirs comes first in one and last in the other.
+    /// Ours begins. Theirs comes first in one of two rounds, and last in the other.
     fn begin(&mut self, is_build: bool) {
         if self.times.ours.len() % 2 == 0 {
             self.run_theirs(is_build);
@@ -137,7 +137,7 @@ fn run(
     MARKS.take().expect("a run was on")
 }
 
-/// So many builds and rounds of ours alone; what the last round found.
+/// Does so many builds and rounds of ours alone, and returns the last round's result.
 pub fn run_alone(
     words: &Words,
     text: &[u8],
@@ -150,7 +150,7 @@ pub fn run_alone(
     run(words, text, unit, mode, filter, builds, rounds, None).last
 }
 
-/// So many builds or rounds of both sides, in turn.
+/// Does so many builds or rounds of both sides, in turn.
 pub fn run_beside(
     words: &'static Words,
     text: &'static [u8],

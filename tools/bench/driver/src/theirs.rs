@@ -23,7 +23,7 @@ impl Unit {
     }
 }
 
-/// What a round does. Ours counts them by the same numbers.
+/// What a round does. Our side has the same numbers.
 #[derive(Clone, Copy, PartialEq, Eq)]
 pub enum Mode {
     Find,
@@ -31,7 +31,7 @@ pub enum Mode {
     NoSuffix,
     Longest,
     First,
-    /// Ours cuts the text into tokens, of which the words count; the Rust crate's is the leftmost loop.
+    /// Our side counts the words among the text's tokens; the Rust crate's is the leftmost loop.
     Tokens,
     FindSource,
     OverlappingSource,
@@ -43,9 +43,9 @@ pub enum Mode {
     Write,
     ReadUnchecked,
     Read,
-    /// Ours makes rows of the states; the Rust crate's does nothing.
+    /// Our side makes rows; the Rust crate's does nothing.
     Accelerate,
-    /// Ours searches with rows of the states; the Rust crate's searches as it does without.
+    /// Our side searches with rows; the Rust crate's searches as it does without.
     RowsFind,
     RowsOverlapping,
     RowsNoSuffix,
@@ -89,7 +89,7 @@ const MODES: [(Mode, &str); 27] = [
 ];
 
 impl Mode {
-    /// Whether a round goes over such units. Tokens are parts of a text.
+    /// Whether a round can go over these units. Tokens are parts of a text.
     pub fn is_of(self, unit: Unit) -> bool {
         unit == Unit::Char || self != Mode::Tokens
     }
@@ -150,7 +150,7 @@ pub fn build(words: &[&[u8]], unit: Unit, mode: Mode, filter: bool) -> Automaton
         }
         Unit::Char => {
             let builder = CharwiseDoubleArrayAhoCorasickBuilder::new().match_kind(mode.kind());
-            // SAFETY: the words of a `Words` are UTF-8. Our side has them as texts ahead of a build too.
+            // SAFETY: the words of a `Words` are UTF-8. Our side, too, has them as text beforehand.
             let texts = words.iter().map(|word| unsafe { from_utf8_unchecked(word) });
             let built = builder.use_prefilter(filter).build(texts);
             Automaton::Chars(built.expect("the words build"), Vec::new(), Vec::new())
@@ -158,9 +158,8 @@ pub fn build(words: &[&[u8]], unit: Unit, mode: Mode, filter: bool) -> Automaton
     }
 }
 
-/// Makes what rounds need beside the automaton: its written form, and the characters of the text.
-///
-/// A round takes the text as it is. So that no round looks at it for this, it is seen here to be UTF-8.
+/// Makes what rounds need besides the automaton: its written form, and the characters of the text.
+/// The text is checked to be UTF-8, so that no round needs to.
 pub fn prepare(automaton: &mut Automaton, text: &[u8], mode: Mode) {
     let reads = matches!(mode, Mode::Read | Mode::ReadUnchecked);
     match automaton {
@@ -179,7 +178,7 @@ pub fn round(automaton: &mut Automaton, text: &[u8], mode: Mode) -> Tally {
     match automaton {
         Automaton::Bytes(automaton, written) => bytes::round(automaton, written, text, text, mode),
         Automaton::Chars(automaton, written, units) => {
-            // SAFETY: `prepare` has seen that the text is UTF-8.
+            // SAFETY: `prepare` checked that the text is UTF-8.
             let text = unsafe { from_utf8_unchecked(text) };
             chars::round(automaton, written, text, units, mode)
         }
@@ -255,7 +254,7 @@ macro_rules! rounds {
                 count_all(automaton.leftmost_find_iter(text))
             }
 
-            // The three below are unsafe over characters, and the bytes of a text are UTF-8.
+            // The next three are unsafe over characters, and the bytes of a text are UTF-8.
             #[inline(never)]
             #[allow(unused_unsafe)]
             fn find_source(automaton: &Automaton, text: &$text) -> Tally {

@@ -3,7 +3,7 @@
 use crate::layout::{Part, parts_of};
 use crate::random::Random;
 
-/// Changes some bytes in one to four of the ways. `other` is a second written automaton of the same unit.
+/// Changes some bytes in one to four of these ways. `other` is a second automaton of the same unit.
 pub fn change(bytes: &mut Vec<u8>, other: &[u8], unit: u32, random: &mut Random) {
     let by_parts = random.below(4) > 0;
     for _ in 0..1 + random.below(4) {
@@ -34,8 +34,8 @@ fn take_part(bytes: &mut Vec<u8>, part: Part, number: usize, other: &[u8], unit:
     }
 }
 
-/// Changes one field of one entry, more often of one that is not what the entry before it is. `elements` is the
-/// number of elements.
+/// Changes one field of one entry, more often of an entry that differs from the one before it.
+/// `elements` is the number of elements.
 fn change_entry(bytes: &mut [u8], part: Part, elements: usize, random: &mut Random) {
     let mut entry = random.below(part.count);
     for _ in 0..64 {
@@ -106,7 +106,7 @@ fn set_byte(bytes: &mut [u8], random: &mut Random) {
     bytes[at] = *random.pick(&[0, 1, 2, 3, 0x61, 0x62, 0x7f, 0x80, 0xfe, 0xff]);
 }
 
-/// Sets four bytes to a number at an edge, or to one near what stands there.
+/// Sets four bytes to a number at an edge, or to one near theirs.
 fn set_field(bytes: &mut [u8], random: &mut Random) {
     let at = place(bytes, random);
     let Some(field) = bytes.get(at..at + 4).and_then(|field| field.try_into().ok()) else { return };
@@ -120,7 +120,7 @@ fn set_field(bytes: &mut [u8], random: &mut Random) {
     bytes[at..at + 4].copy_from_slice(&set.to_le_bytes());
 }
 
-/// Takes a part of the other automaton in the place of as many bytes.
+/// Replaces bytes by as many of the other automaton.
 fn splice(bytes: &mut [u8], other: &[u8], random: &mut Random) {
     let least = bytes.len().min(other.len());
     let from = random.below(least);
@@ -128,7 +128,7 @@ fn splice(bytes: &mut [u8], other: &[u8], random: &mut Random) {
     bytes[from..to].copy_from_slice(&other[from..to]);
 }
 
-/// Writes an element, or as many bytes, over others.
+/// Copies an element, or as many bytes, over others.
 fn copy_within(bytes: &mut [u8], random: &mut Random) {
     let size = *random.pick(&[1, 4, 8, 12, 16]);
     if bytes.len() < 4 + size {

@@ -1,6 +1,6 @@
-//! Where the parts of a written automaton stand.
+//! The layout of a written automaton.
 
-/// A part: so many entries of so many bytes each, from a place on.
+/// A part: so many entries of so many bytes each, from an offset on.
 #[derive(Clone, Copy)]
 pub struct Part {
     pub start: usize,
@@ -14,7 +14,7 @@ impl Part {
     }
 }
 
-/// How many parts an automaton has that has no filter.
+/// The number of parts of an automaton without a prefilter.
 pub const PARTS_WITHOUT_FILTER: usize = 7;
 
 /// Reads along the bytes.
@@ -48,8 +48,9 @@ impl Walk<'_> {
     }
 }
 
-/// The parts of an automaton with values of four bytes, over bytes (`unit` 0) or characters, in the order of the
-/// written form; none where the bytes end before. The last is the table of the filter, if there is one.
+/// The parts of an automaton with values of four bytes, over bytes (`unit` 0) or characters, in the
+/// order of the written form, or `None` if the bytes end early. The last is the prefilter's table,
+/// if there is one.
 pub fn parts_of(bytes: &[u8], unit: u32) -> Option<Vec<Part>> {
     let mut walk = Walk { bytes, at: 0, parts: Vec::new() };
     if unit == 0 {
@@ -62,7 +63,7 @@ pub fn parts_of(bytes: &[u8], unit: u32) -> Option<Vec<Part>> {
         walk.part(4, 1)?;
     }
     walk.list(12)?;
-    // The kind, the number of states, and whether there is a filter, with the length of its window.
+    // The kind, the number of states, and whether there is a prefilter, with its window's length.
     walk.part(1, 1)?;
     walk.part(4, 1)?;
     walk.part(1, 1)?;

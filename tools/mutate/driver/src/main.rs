@@ -1,5 +1,5 @@
-//! Changes written automata at random, has them read by `deserialize`, and compares what the accepted
-//! ones find with the plain definitions over the patterns that they list.
+//! Mutates written automata at random, reads them with `deserialize`, and compares the searches of
+//! accepted ones with the plain definitions over the patterns that they list.
 //!
 //! `mutate COUNT SEED`
 
@@ -20,7 +20,7 @@ struct Written {
     read: Read,
 }
 
-/// What became of the changed automata.
+/// The outcomes of the changed automata.
 #[derive(Default)]
 struct Tally {
     refused: u64,
@@ -41,7 +41,7 @@ fn main() {
     for case in 0..count {
         let at = random.below(pool.len());
         let first = &pool[at];
-        // Each second one is of the same unit.
+        // Every second one is of the same unit.
         let second = &pool[(at + 2 * random.below(pool.len())) % pool.len()];
         let mut bytes = first.bytes.clone();
         while bytes == first.bytes {
@@ -55,7 +55,7 @@ fn main() {
     );
 }
 
-/// Automata of all kinds over bytes and characters, with the filter and without.
+/// Automata of all kinds over bytes and characters, with a prefilter and without.
 fn write_pool(random: &mut Random, room: &mut [u32]) -> Vec<Written> {
     let mut pool = Vec::new();
     for number in 0..120 {
@@ -81,7 +81,7 @@ fn words(random: &mut Random, unit: u32) -> Vec<Vec<u8>> {
         .collect()
 }
 
-/// Reads the bytes, and where they are accepted searches a haystack of their own patterns.
+/// Reads the bytes, and if they are accepted searches a haystack of their own patterns.
 fn look_at(case: u64, seed: u64, bytes: &[u8], of: &Written, random: &mut Random, room: &mut [u32], tally: &mut Tally) {
     let unit = of.unit;
     let Some(listed) = ours::read(bytes, b"", unit, room) else {
@@ -116,7 +116,7 @@ fn look_at(case: u64, seed: u64, bytes: &[u8], of: &Written, random: &mut Random
     }
 }
 
-/// Patterns, parts of them, and other units, one behind the other.
+/// Patterns, parts of them, and other units, joined.
 fn haystack_of(read: &Read, random: &mut Random, unit: u32) -> Vec<u8> {
     let patterns: Vec<&Vec<u8>> = read.patterns.keys().collect();
     let others: &[&str] = if unit == 0 { &["a", "b", "c", "x", "\0"] } else { &["a", "b", "é", "に", "𐀀", "x"] };

@@ -1,4 +1,4 @@
-//! This repository's side: automata are written, and bytes are read and searched.
+//! This repository's side: writes automata, reads bytes, and searches.
 
 use std::collections::BTreeMap;
 
@@ -37,7 +37,7 @@ pub struct Read {
     pub found: Vec<Vec<Found>>,
 }
 
-/// The written form of an automaton, which has at most so many bytes.
+/// The written form of an automaton, of at most so many bytes.
 pub fn build(words: &[Vec<u8>], unit: u32, kind: u32, filter: bool, room: usize) -> Vec<u8> {
     let bytes = words.concat();
     let mut end = 0;
@@ -53,7 +53,7 @@ pub fn build(words: &[Vec<u8>], unit: u32, kind: u32, filter: bool, room: usize)
     out
 }
 
-/// Reads and searches; `None` where the bytes are refused. `room` is used again by each call.
+/// Reads and searches, or returns `None` if the bytes are refused. `room` is reused by each call.
 pub fn read(bytes: &[u8], haystack: &[u8], unit: u32, room: &mut [u32]) -> Option<Read> {
     // SAFETY: each slice goes by its own pointer and length.
     let len = unsafe {

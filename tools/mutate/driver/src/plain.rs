@@ -5,14 +5,14 @@ use std::collections::BTreeMap;
 
 type Patterns = BTreeMap<Vec<u8>, Vec<u32>>;
 
-/// The places between units: all places over bytes, and the boundaries of characters over text.
+/// The offsets between units: all of them over bytes, and character boundaries over text.
 fn boundaries(haystack: &[u8], unit: u32) -> Vec<usize> {
     (0..=haystack.len())
         .filter(|place| unit == 0 || haystack.get(*place).is_none_or(|byte| byte & 0xc0 != 0x80))
         .collect()
 }
 
-/// The patterns that end at a place and start at `least` or later, the longest first.
+/// The patterns that end at an offset and start at `least` or later, the longest first.
 fn ending(patterns: &Patterns, haystack: &[u8], least: usize, end: usize) -> Vec<Found> {
     (least..=end)
         .filter_map(|start| patterns.get(&haystack[start..end]).map(|values| (start, values)))
@@ -20,7 +20,7 @@ fn ending(patterns: &Patterns, haystack: &[u8], least: usize, end: usize) -> Vec
         .collect()
 }
 
-/// The longest pattern that starts at a place, and where it ends.
+/// The longest pattern that starts at an offset, and where it ends.
 fn starting(patterns: &Patterns, haystack: &[u8], start: usize) -> Option<(usize, u32)> {
     (start..=haystack.len())
         .rev()

@@ -1,4 +1,4 @@
-//! Numbers that look random and are the same for the same seed (xorshift64*).
+//! Pseudorandom numbers, determined by a seed (xorshift64*).
 
 pub struct Random(u64);
 

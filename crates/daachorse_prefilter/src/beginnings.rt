@@ -1,7 +1,4 @@
-//! Which four bytes patterns begin with.
-//!
-//! The layers above may rely on a table telling where some pattern of those that were added may begin:
-//! where the next four bytes have a hash that is marked.
+//! Which four bytes patterns begin with: a place is a candidate if they have a marked hash.
 
 ghost use Rattle.std.specs.Prelude.{◌≡◌, ◌<◌, ◌≤◌, ℕ, true, false, set, length, slice_index_or, IfOk, IfErr};
 ghost use Rattle.daachorse_core.specs.Refusals.{IsOutOfMemory};
@@ -17,7 +14,7 @@ use std::marker::Model;
 /// How many bytes of a pattern are looked at.
 pub const BEGINNING: usize = 4;
 
-/// With fewer states a table is not worth its making: the filter then passes at little else than
+/// With fewer states a table is not worth making: the prefilter then passes at little else than
 /// the beginnings of patterns.
 pub const FEW_STATES: usize = 8192;
 
@@ -42,11 +39,7 @@ impl<A: Allocator> Model for Beginnings<A> {
 }
 
 impl<A: Allocator> Beginnings<A> {
-    /// A table with no mark set.
-    ///
-    /// # Errors
-    ///
-    /// An allocation failed.
+    /// A table with no mark set. Fails if an allocation does.
     pub fn new(alloc: A) -> Result<Self>
         ensures sized { IfOk result (λ marks. length marks ≡ 8192) }
         ensures unmarked { IfOk result (λ marks. (h : ℕ) → slice_index_or marks h false ≡ false) }

@@ -1,7 +1,4 @@
-//! The first place of a haystack at which a filter passes, and the test of what patterns begin with.
-//!
-//! The layers above may rely on that place being the first of all, or of the boundaries of a text, in
-//! the haystack as it is read: as it is, or without regard to the case of ASCII letters.
+//! The first candidate of a haystack that the test of what patterns begin with verifies.
 
 ghost use Rattle.std.specs.Prelude.{◌&&◌, option_map};
 ghost use Rattle.daachorse_model.specs.Folding.{as_read};
@@ -15,8 +12,8 @@ use crate::prefilter::Prefilter;
 use crate::prefilter::reading::{AsFolded, AsItIs, ByteReading};
 use std::alloc::Allocator;
 
-/// The first place of the slice, folded where `folds` says so, at which the filter and the test pass,
-/// or its length.
+/// The first place of the slice, folded if `folds` is set, at which prefilter and test pass, or its
+/// length.
 #[inline(always)]
 pub fn first_place<A: Allocator>(
     filter: &Prefilter<A>,
@@ -32,10 +29,10 @@ pub fn first_place<A: Allocator>(
     find_place::<AsItIs, A>(filter, beginnings, haystack)
 }
 
-/// The first place of what is read of the slice at which the filter and the test pass, or its length.
+/// The first place of what is read of the slice at which prefilter and test pass, or its length.
 ///
-/// It stands by itself and is marked cold, so that the loop of a search past a closed filter keeps
-/// its registers: a search calls it once for a whole run of bytes.
+/// It is cold, so that the loop of a search whose gate is closed keeps its registers: a search calls
+/// it once for a whole run of bytes.
 #[cold]
 #[inline(never)]
 fn find_place<R: ByteReading, A: Allocator>(
@@ -45,15 +42,14 @@ fn find_place<R: ByteReading, A: Allocator>(
 ) -> usize
     ensures { IsFirstPlace (λ w. may_begin (option_map (λ b. b.now) beginnings.entry) w && admits filter.now w) (R.read haystack.now) 0 result }
 {
-    // A scan that asks no test is shorter.
     match beginnings {
         Some(test) => filter.first_place::<R, &Beginnings<A>>(&test, haystack, 0),
         None => filter.first_place::<R, NoTest>(&NoTest, haystack, 0),
     }
 }
 
-/// The first boundary of the text, folded where `folds` says so, at which the filter and the test pass,
-/// or its length in bytes.
+/// The first boundary of the text, folded if `folds` is set, at which prefilter and test pass, or its
+/// length in bytes.
 #[inline(always)]
 pub fn first_boundary<A: Allocator>(
     filter: &Prefilter<A>,
@@ -69,10 +65,8 @@ pub fn first_boundary<A: Allocator>(
     find_boundary::<AsItIs, A>(filter, beginnings, haystack)
 }
 
-/// The first boundary of what is read of the text at which the filter and the test pass, or its length
-/// in bytes.
-///
-/// It stands by itself and is marked cold for the same reason as [`find_place`].
+/// The first boundary of what is read of the text at which prefilter and test pass, or its length in
+/// bytes. It is cold for the same reason as [`find_place`].
 #[cold]
 #[inline(never)]
 fn find_boundary<R: ByteReading, A: Allocator>(

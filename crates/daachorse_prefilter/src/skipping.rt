@@ -1,9 +1,6 @@
-//! A filter with a gate and a test, which moves a haystack on to the next place where a pattern may begin.
+//! A prefilter with a gate and a test, which moves a haystack on to the next candidate.
 //!
-//! The layers above may rely on the filter being asked where there is one and its gate is open, from
-//! the place of the haystack on and over its units as they are read, on the test, if there is one, being asked where the filter passes, and
-//! on the gate recording of each run just the bytes that it skipped. No search's answer rests on the
-//! gate.
+//! It is asked while its gate is open. No match of a search depends on the gate.
 
 ghost use Rattle.std.specs.Prelude.{◌≡◌, ℕ, List, [], None, option_map, encode_utf8_all, IsTrue};
 ghost use Rattle.daachorse_prefilter.specs.Gates.{HasRecorded};
@@ -21,8 +18,8 @@ use daachorse_text::text::Text;
 use std::alloc::{Allocator, Global};
 use std::marker::Model;
 
-/// The filter of an automaton, if it has one, for the time of one search, and what its patterns begin
-/// with, if that is asked where the filter passes.
+/// The prefilter of an automaton, if it has one, during one search, and what its patterns begin with,
+/// if candidates are verified by that.
 #[derive(Drop)]
 pub struct Skipping<'a, A: Allocator = Global> {
     filter: Option<&'a Prefilter<A>>,
@@ -40,7 +37,7 @@ impl<'a, A: Allocator> Model for Skipping<'a, A> {
 }
 
 impl<'a, A: Allocator> Skipping<'a, A> {
-    /// The filter, if there is one, behind a gate that is open.
+    /// The prefilter, if there is one, behind an open gate.
     #[inline(always)]
     pub fn new(filter: Option<&'a Prefilter<A>>) -> Self
         ensures filter { result.filter ≡ option_map (λ f. f.now) filter.entry }
@@ -54,7 +51,7 @@ impl<'a, A: Allocator> Skipping<'a, A> {
         }
     }
 
-    /// The same filter behind the same gate, with these beginnings, if any, asked where it passes.
+    /// The same prefilter and gate, with candidates verified by these beginnings, if any.
     #[inline(always)]
     pub fn with_beginnings(self, beginnings: Option<&'a Beginnings<A>>) -> Self
         ensures filter { result.filter ≡ self.entry.filter }
@@ -68,7 +65,7 @@ impl<'a, A: Allocator> Skipping<'a, A> {
         }
     }
 
-    /// Whether there is a filter behind an open gate.
+    /// Whether there is a prefilter behind an open gate.
     #[inline(always)]
     fn is_worth(&self) -> bool
         ensures unused { IsUnused self.now → IsTrue result }

@@ -31,8 +31,8 @@ pub fn first_place<A: Allocator>(
 
 /// The first place of what is read of the slice at which prefilter and test pass, or its length.
 ///
-/// It is cold, so that the loop of a search whose gate is closed keeps its registers: a search calls
-/// it once for a whole run of bytes.
+/// It is cold, so that the loop of a search whose gate is closed keeps its registers: a search
+/// calls it once for a whole run of bytes.
 #[cold]
 #[inline(never)]
 fn find_place<R: ByteReading, A: Allocator>(
@@ -48,8 +48,8 @@ fn find_place<R: ByteReading, A: Allocator>(
     }
 }
 
-/// The first boundary of the text, folded if `folds` is set, at which prefilter and test pass, or its
-/// length in bytes.
+/// The first boundary of the text, folded if `folds` is set, at which prefilter and test pass, or
+/// its length in bytes.
 #[inline(always)]
 pub fn first_boundary<A: Allocator>(
     filter: &Prefilter<A>,
@@ -65,8 +65,8 @@ pub fn first_boundary<A: Allocator>(
     find_boundary::<AsItIs, A>(filter, beginnings, haystack)
 }
 
-/// The first boundary of what is read of the text at which prefilter and test pass, or its length in
-/// bytes. It is cold for the same reason as [`find_place`].
+/// The first boundary of what is read of the text at which prefilter and test pass, or its length
+/// in bytes. It is cold for the same reason as [`find_place`].
 #[cold]
 #[inline(never)]
 fn find_boundary<R: ByteReading, A: Allocator>(

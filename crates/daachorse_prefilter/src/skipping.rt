@@ -18,8 +18,8 @@ use daachorse_text::text::Text;
 use std::alloc::{Allocator, Global};
 use std::marker::Model;
 
-/// The prefilter of an automaton, if it has one, during one search, and what its patterns begin with,
-/// if candidates are verified by that.
+/// The prefilter of an automaton, if it has one, during one search, and what its patterns begin
+/// with, if candidates are verified by that.
 #[derive(Drop)]
 pub struct Skipping<'a, A: Allocator = Global> {
     filter: Option<&'a Prefilter<A>>,

@@ -247,7 +247,7 @@ def memory(results):
 def tables(results):
     counted = [*SETS, "middle", "instructions"]
     return {
-        "ran": [f"Run: {'; '.join(results.ran)}."] if results.ran else [],
+        "ran": ["![Nanoseconds a byte of each library](speed.svg)", "", f"Run: {'; '.join(results.ran)}."] if results.ran else [],
         "bytes": table(["bytes", "ns", *counted], of_unit(results, "bytes")),
         "chars": table(["characters", "ns", *counted], of_unit(results, "chars")),
         "rows": table(["with rows", *SETS], with_rows(results)),

@@ -8,6 +8,7 @@ pub mod Tours
 pub mod Following
 pub mod Linked
 pub mod Edges
+pub mod Arrays
 pub mod Trees
 pub mod Depths
 pub mod Climbs

@@ -1,8 +1,9 @@
 //! The children of one element, in the order of their units.
 
-ghost use Rattle.std.specs.Prelude.{◌≡◌, ◌≢◌, ◌<◌, ℕ, [], ◌∷◌, Some, length, map, reverse, slice_index_or, IfErr, IfSome, OnOk};
+ghost use Rattle.std.specs.Prelude.{◌≡◌, ◌≢◌, ◌<◌, [], ◌∷◌, map, reverse, IfErr, IfSome, OnOk};
 ghost use Rattle.daachorse_core.specs.Refusals.{IsOutOfMemory};
-ghost use Rattle.daachorse_array.specs.Edges.{TellChildren, children_below, members, put_before};
+ghost use Rattle.daachorse_array.specs.Arrays.{AreGroups, HasEdges, children_of};
+ghost use Rattle.daachorse_array.specs.Edges.{put_before};
 ghost use Rattle.daachorse_array.specs.Trees.{elements_of};
 
 use crate::array::Array;
@@ -19,15 +20,12 @@ pub(crate) fn put_aside<E: Array, A: Allocator>(
     list: &mut Vec<(u32, u32), A>,
     aside: &mut Vec<(u32, u32), A>,
 ) -> Result<()>
-    requires inside { (i c j : ℕ) → E.child edges.now i c ≡ Some j → (j < E.count edges.now) × (c < E.units edges.now) }
-    requires tell { TellChildren (E.child edges.now) (E.group edges.now) (E.edge edges.now) (E.count edges.now) }
-    requires groups { (g : ℕ) → g < E.count edges.now
-        → slice_index_or groups.now g [] ≡ members (E.edge edges.now) g (E.count edges.now) }
-    requires each { length groups.now ≡ E.count edges.now }
-    requires element { element < E.count edges.now }
-    ensures ok { OnOk result (reverse aside.new.items ≡ put_before (map (λ j. (depth, j)) (children_below (E.child edges.now) element (E.units edges.now))) (reverse aside.old.items)) }
+    requires edges { HasEdges (E.sees edges.now) }
+    requires groups { AreGroups (E.sees edges.now) groups.now }
+    requires element { element < (E.sees edges.now).count }
+    ensures ok { OnOk result (reverse aside.new.items ≡ put_before (map (λ j. (depth, j)) (children_of (E.sees edges.now) element)) (reverse aside.old.items)) }
     ensures err { IfErr result IsOutOfMemory }
-    ensures some { IfErr result (λ _. children_below (E.child edges.now) element (E.units edges.now) ≢ []) }
+    ensures some { IfErr result (λ _. children_of (E.sees edges.now) element ≢ []) }
 {
     if let Some(child) = only_child(edges, groups, element) {
         aside.push((depth, child))?;
@@ -46,13 +44,10 @@ fn only_child<E: Array, A: Allocator>(
     groups: &Siblings<A>,
     element: usize,
 ) -> Option<u32>
-    requires inside { (i c j : ℕ) → E.child edges.now i c ≡ Some j → (j < E.count edges.now) × (c < E.units edges.now) }
-    requires tell { TellChildren (E.child edges.now) (E.group edges.now) (E.edge edges.now) (E.count edges.now) }
-    requires groups { (g : ℕ) → g < E.count edges.now
-        → slice_index_or groups.now g [] ≡ members (E.edge edges.now) g (E.count edges.now) }
-    requires each { length groups.now ≡ E.count edges.now }
-    requires element { element < E.count edges.now }
-    ensures { IfSome result (λ child. children_below (E.child edges.now) element (E.units edges.now) ≡ child ∷ []) }
+    requires edges { HasEdges (E.sees edges.now) }
+    requires groups { AreGroups (E.sees edges.now) groups.now }
+    requires element { element < (E.sees edges.now).count }
+    ensures { IfSome result (λ child. children_of (E.sees edges.now) element ≡ child ∷ []) }
 {
     let group = edges.group(element)?;
     let mut members = groups.members(group);
@@ -70,15 +65,12 @@ fn list_children<E: Array, A: Allocator>(
     element: usize,
     list: &mut Vec<(u32, u32), A>,
 ) -> Result<()>
-    requires inside { (i c j : ℕ) → E.child edges.now i c ≡ Some j → (j < E.count edges.now) × (c < E.units edges.now) }
-    requires tell { TellChildren (E.child edges.now) (E.group edges.now) (E.edge edges.now) (E.count edges.now) }
-    requires groups { (g : ℕ) → g < E.count edges.now
-        → slice_index_or groups.now g [] ≡ members (E.edge edges.now) g (E.count edges.now) }
-    requires each { length groups.now ≡ E.count edges.now }
-    requires element { element < E.count edges.now }
-    ensures ok { OnOk result (elements_of list.new.items ≡ children_below (E.child edges.now) element (E.units edges.now)) }
+    requires edges { HasEdges (E.sees edges.now) }
+    requires groups { AreGroups (E.sees edges.now) groups.now }
+    requires element { element < (E.sees edges.now).count }
+    ensures ok { OnOk result (elements_of list.new.items ≡ children_of (E.sees edges.now) element) }
     ensures err { IfErr result IsOutOfMemory }
-    ensures some { IfErr result (λ _. children_below (E.child edges.now) element (E.units edges.now) ≢ []) }
+    ensures some { IfErr result (λ _. children_of (E.sees edges.now) element ≢ []) }
 {
     list.clear();
     let Some(group) = edges.group(element) else {

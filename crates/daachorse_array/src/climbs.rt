@@ -30,9 +30,9 @@ const NOT_KNOWN: u32 = 0;
 /// # Errors
 /// Out of memory.
 pub fn depths_by_parents<E: Array, A: Allocator + Copy>(alloc: A, edges: &E) -> Result<Vec<u32, A>>
-    requires tree { IsTree (E.child edges.now) (E.count edges.now) (E.units edges.now) }
-    requires tell { TellChildren (E.child edges.now) (λ i. Some i) (E.edge edges.now) (E.count edges.now) }
-    ensures ok { IfOk result (λ v. IsDepthTable (E.child edges.now) (E.units edges.now) (E.count edges.now) v.items) }
+    requires tree { let view = E.sees edges.now in IsTree view.child view.count view.units }
+    requires tell { let view = E.sees edges.now in TellChildren view.child (λ i. Some i) view.edge view.count }
+    ensures ok { let view = E.sees edges.now in IfOk result (λ v. IsDepthTable view.child view.units view.count v.items) }
     ensures err { IfErr result IsOutOfMemory }
 {
     let count = edges.num_elements();
@@ -56,17 +56,17 @@ fn climb<E: Array, A: Allocator>(
     depths: &mut Vec<u32, A>,
     path: &mut Vec<u32, A>,
 ) -> Option<u32>
-    requires tree { IsTree (E.child edges.now) (E.count edges.now) (E.units edges.now) }
-    requires tell { TellChildren (E.child edges.now) (λ i. Some i) (E.edge edges.now) (E.count edges.now) }
-    requires few { E.count edges.now < 2 ^ 32 }
-    requires element { element < E.count edges.now }
-    requires known { AreKnown (E.child edges.now) (E.count edges.now) (E.units edges.now) [] depths.old.items }
+    requires tree { let view = E.sees edges.now in IsTree view.child view.count view.units }
+    requires tell { let view = E.sees edges.now in TellChildren view.child (λ i. Some i) view.edge view.count }
+    requires few { (E.sees edges.now).count < 2 ^ 32 }
+    requires element { element < (E.sees edges.now).count }
+    requires known { let view = E.sees edges.now in AreKnown view.child view.count view.units [] depths.old.items }
     requires empty { path.old.items ≡ [] }
-    requires room { E.count edges.now ≤ vec_capacity path.old }
-    ensures known { AreKnown (E.child edges.now) (E.count edges.now) (E.units edges.now) (reverse path.new.items) depths.new.items }
-    ensures above { MatchOption result
-        ((i : ℕ) → IsAmong (reverse path.new.items) i → ¬ IsReached (E.child edges.now) (E.units edges.now) (E.count edges.now) i)
-        (λ depth. IsPathBelow (E.child edges.now) (E.count edges.now) (E.units edges.now) depth (reverse path.new.items)) }
+    requires room { (E.sees edges.now).count ≤ vec_capacity path.old }
+    ensures known { let view = E.sees edges.now in AreKnown view.child view.count view.units (reverse path.new.items) depths.new.items }
+    ensures above { let view = E.sees edges.now in MatchOption result
+        ((i : ℕ) → IsAmong (reverse path.new.items) i → ¬ IsReached view.child view.units view.count i)
+        (λ depth. IsPathBelow view.child view.count view.units depth (reverse path.new.items)) }
     ensures few { IfSome result (λ depth. depth + length path.new.items < 2 ^ 32) }
     ensures passed { 0 < element → slice_index depths.new.items element ≢ 0 }
     ensures kept { (i : ℕ) → slice_index depths.old.items i ≢ 0 → slice_index depths.new.items i ≢ 0 }

@@ -1,7 +1,8 @@
 //! The depths of an array's elements, found breadth first with no sorting of children.
 
-ghost use Rattle.std.specs.Prelude.{◌≡◌, ◌+◌, ◌<◌, ◌≤◌, ℕ, [], Some, length, slice_index, slice_index_or, vec_capacity, IfOk, IfErr};
+ghost use Rattle.std.specs.Prelude.{◌≡◌, ◌+◌, ◌<◌, ◌≤◌, ℕ, Some, length, slice_index, vec_capacity, IfOk, IfErr};
 ghost use Rattle.daachorse_core.specs.Refusals.{IsOutOfMemory};
+ghost use Rattle.daachorse_array.specs.Arrays.{AreGroups, HasEdges};
 ghost use Rattle.daachorse_array.specs.Edges.{IsTree, TellChildren, members};
 ghost use Rattle.daachorse_array.specs.Depths.{IsDepthTable};
 ghost use Rattle.daachorse_array.specs.Trees.{IsNoting};
@@ -19,9 +20,9 @@ pub(crate) const NOT_REACHED: u32 = u32::MAX;
 /// # Errors
 /// Out of memory.
 pub fn depths<E: Array, A: Allocator + Copy>(alloc: A, edges: &E) -> Result<Vec<u32, A>>
-    requires tree { IsTree (E.child edges.now) (E.count edges.now) (E.units edges.now) }
-    requires tell { TellChildren (E.child edges.now) (E.group edges.now) (E.edge edges.now) (E.count edges.now) }
-    ensures ok { IfOk result (λ v. IsDepthTable (E.child edges.now) (E.units edges.now) (E.count edges.now) v.items) }
+    requires tree { let view = E.sees edges.now in IsTree view.child view.count view.units }
+    requires tell { let view = E.sees edges.now in TellChildren view.child view.group view.edge view.count }
+    ensures ok { let view = E.sees edges.now in IfOk result (λ v. IsDepthTable view.child view.units view.count v.items) }
     ensures err { IfErr result IsOutOfMemory }
 {
     let groups = Siblings::new(alloc, edges)?;
@@ -47,17 +48,14 @@ fn note_children<E: Array, A: Allocator>(
     depths: &mut Vec<u32, A>,
     reached: &mut Vec<u32, A>,
 )
-    requires inside { (i c j : ℕ) → E.child edges.now i c ≡ Some j → (j < E.count edges.now) × (c < E.units edges.now) }
-    requires tell { TellChildren (E.child edges.now) (E.group edges.now) (E.edge edges.now) (E.count edges.now) }
-    requires groups { (g : ℕ) → g < E.count edges.now
-        → slice_index_or groups.now g [] ≡ members (E.edge edges.now) g (E.count edges.now) }
-    requires each { length groups.now ≡ E.count edges.now }
-    requires element { element < E.count edges.now }
-    requires size { length depths.old.items ≡ E.count edges.now }
+    requires edges { HasEdges (E.sees edges.now) }
+    requires groups { AreGroups (E.sees edges.now) groups.now }
+    requires element { element < (E.sees edges.now).count }
+    requires size { length depths.old.items ≡ (E.sees edges.now).count }
     requires shallow { slice_index depths.old.items element < 4294967295 }
-    requires room { (g : ℕ) → E.group edges.now element ≡ Some g
-        → length reached.old.items + length (members (E.edge edges.now) g (E.count edges.now)) ≤ vec_capacity reached.old }
-    ensures noted { IsNoting (E.child edges.now element) (slice_index depths.old.items element + 1)
+    requires room { let view = E.sees edges.now in (g : ℕ) → view.group element ≡ Some g
+        → length reached.old.items + length (members view.edge g view.count) ≤ vec_capacity reached.old }
+    ensures noted { IsNoting ((E.sees edges.now).child element) (slice_index depths.old.items element + 1)
         reached.old.items depths.old.items reached.new.items depths.new.items }
     ensures capacity { vec_capacity reached.new ≡ vec_capacity reached.old }
 {

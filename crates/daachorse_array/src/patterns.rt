@@ -4,10 +4,11 @@
 //! its end. Each way down ends at an element with outputs, so that the error of a failed allocation
 //! takes the place of a pattern.
 
-ghost use Rattle.std.specs.Prelude.{◌≡◌, ◌<◌, ◌≤◌, ◌+◌, ◌-◌, ◌++◌, ◌⊎◌, ◌≢◌, ℕ, List, [], ◌∷◌, Some, length, map, reverse, slice_get, slice_index_or, take, IfOk, IfErr, OnOk};
+ghost use Rattle.std.specs.Prelude.{◌≡◌, ◌<◌, ◌≤◌, ◌+◌, ◌-◌, ◌++◌, ◌⊎◌, ◌≢◌, ℕ, List, [], ◌∷◌, Some, length, map, reverse, slice_get, take, IfOk, IfErr, OnOk};
 ghost use Rattle.daachorse_core.specs.Refusals.{IsOutOfMemory};
 ghost use Rattle.daachorse_core.specs.declared.outputs.Output.{Output};
-ghost use Rattle.daachorse_array.specs.Edges.{TellChildren, children_below, members, put_before};
+ghost use Rattle.daachorse_array.specs.Arrays.{AreGroups, HasEdges, children_of};
+ghost use Rattle.daachorse_array.specs.Edges.{put_before};
 ghost use Rattle.daachorse_array.specs.Listing.{HasPatterns, IsPatterns, own_end, unit_of};
 
 use crate::array::{Array, own_end};
@@ -38,8 +39,8 @@ pub trait Keys<V: Copy, A: Allocator>: Array {
 
     /// The unit that leads to an element.
     fn unit(&self, element: usize) -> Self::Unit
-        requires { element < Self.count self.now }
-        ensures { number result ≡ unit_of (Self.edge self.now element) };
+        requires { element < (Self.sees self.now).count }
+        ensures { number result ≡ unit_of ((Self.sees self.now).edge element) };
 
     /// The output at a position.
     fn output(&self, position: usize) -> Output<V>
@@ -81,12 +82,12 @@ impl<V: Copy, E: Keys<V, A>, A: Allocator> Model for PatternWalk<V, E, A> {
 
     ghost Value = { List (List ℕ × V) };
 
-    ghost view = { λ s. left_of (E.child s.elements) (E.count s.elements) (E.units s.elements)
-        (E.outputs s.elements) (E.first s.elements) (own_end (E.fail s.elements) (E.first s.elements))
+    ghost view = { λ s. let view = E.sees s.elements in left_of view.child view.count view.units
+        (E.outputs s.elements) view.first (own_end view.fail view.first)
         (map E.number s.text.items) (elements_of s.aside.items) s.stop s.position };
 
-    ghost invariant = { λ s. IsListingWalk (E.child s.elements) (E.group s.elements) (E.edge s.elements) (E.count s.elements) (E.units s.elements)
-        (E.outputs s.elements) (E.first s.elements) (own_end (E.fail s.elements) (E.first s.elements))
+    ghost invariant = { λ s. let view = E.sees s.elements in IsListingWalk view.child view.group view.edge view.count view.units
+        (E.outputs s.elements) view.first (own_end view.fail view.first)
         s.groups s.aside.items (map E.number s.text.items) s.position };
 }
 
@@ -96,8 +97,8 @@ impl<V: Copy, E: Keys<V, A> + Drop, A: Allocator + Copy> PatternWalk<V, E, A> {
     /// # Errors
     /// Out of memory.
     pub fn new(alloc: A, elements: E) -> Result<Self>
-        requires { HasPatterns (E.child elements) (E.group elements) (E.edge elements) (E.count elements) (E.units elements) (E.outputs elements) (E.first elements) (own_end (E.fail elements) (E.first elements)) }
-        ensures ok { IfOk result (λ walk. IsPatterns (E.child elements) (E.count elements) (E.units elements) (E.outputs elements) (E.first elements) (own_end (E.fail elements) (E.first elements)) walk) }
+        requires { let view = E.sees elements in HasPatterns view.child view.group view.edge view.count view.units (E.outputs elements) view.first (own_end view.fail view.first) }
+        ensures ok { let view = E.sees elements in IfOk result (λ walk. IsPatterns view.child view.count view.units (E.outputs elements) view.first (own_end view.fail view.first) walk) }
         ensures err { IfErr result IsOutOfMemory }
     {
         let groups = Siblings::new(alloc, &elements)?;
@@ -186,19 +187,16 @@ fn enter<V: Copy, E: Keys<V, A>, A: Allocator>(
     children: &mut Vec<(u32, u32), A>,
     aside: &mut Vec<(u32, u32), A>,
 ) -> Result<()>
-    requires inside { (i c j : ℕ) → E.child elements.now i c ≡ Some j → (j < E.count elements.now) × (c < E.units elements.now) }
-    requires tell { TellChildren (E.child elements.now) (E.group elements.now) (E.edge elements.now) (E.count elements.now) }
-    requires groups { (g : ℕ) → g < E.count elements.now
-        → slice_index_or groups.now g [] ≡ members (E.edge elements.now) g (E.count elements.now) }
-    requires each { length groups.now ≡ E.count elements.now }
-    requires element { element < E.count elements.now }
+    requires edges { HasEdges (E.sees elements.now) }
+    requires groups { AreGroups (E.sees elements.now) groups.now }
+    requires element { element < (E.sees elements.now).count }
     requires depth { depth < 4294967295 }
     ensures none { OnOk result (depth ≡ 0 → text.new.items ≡ []) }
     ensures text { OnOk result (0 < depth
-        → map E.number text.new.items ≡ take (depth - 1) (map E.number text.old.items) ++ unit_of (E.edge elements.now element) ∷ []) }
-    ensures aside { OnOk result (reverse aside.new.items ≡ put_before (map (λ j. (depth + 1, j)) (children_below (E.child elements.now) element (E.units elements.now))) (reverse aside.old.items)) }
+        → map E.number text.new.items ≡ take (depth - 1) (map E.number text.old.items) ++ unit_of ((E.sees elements.now).edge element) ∷ []) }
+    ensures aside { OnOk result (reverse aside.new.items ≡ put_before (map (λ j. (depth + 1, j)) (children_of (E.sees elements.now) element)) (reverse aside.old.items)) }
     ensures err { IfErr result IsOutOfMemory }
-    ensures some { IfErr result (λ _. (0 < depth) ⊎ (children_below (E.child elements.now) element (E.units elements.now) ≢ [])) }
+    ensures some { IfErr result (λ _. (0 < depth) ⊎ (children_of (E.sees elements.now) element ≢ [])) }
 {
     write_last(text, depth as usize, elements.unit(element))?;
     put_aside(elements, groups, element, depth + 1, children, aside)
@@ -222,9 +220,9 @@ fn write_last<U: Copy, A: Allocator>(text: &mut Vec<U, A>, depth: usize, unit: U
 
 /// The positions where an element's own outputs begin and end; both 0 if its chain is empty.
 fn own_outputs<E: Array>(elements: &E, element: usize) -> (usize, usize)
-    requires { element < E.count elements.now }
-    ensures first { result.0 ≡ E.first elements.now element }
-    ensures stop { 0 < result.0 → result.1 ≡ own_end (E.fail elements.now) (E.first elements.now) element }
+    requires { element < (E.sees elements.now).count }
+    ensures first { result.0 ≡ (E.sees elements.now).first element }
+    ensures stop { let view = E.sees elements.now in 0 < result.0 → result.1 ≡ own_end view.fail view.first element }
 {
     let first = elements.first(element);
     if first == 0 {

@@ -1,8 +1,8 @@
 //! The elements of each group, as linked lists in two numbers an element.
 
-ghost use Rattle.std.specs.Prelude.{◌≡◌, ◌<◌, ◌≤◌, ◌^◌, ℕ, [], length, slice_index_or, IfOk, IfErr};
+ghost use Rattle.std.specs.Prelude.{◌≡◌, ◌<◌, ◌≤◌, ◌^◌, [], length, slice_index_or, IfOk, IfErr};
 ghost use Rattle.daachorse_core.specs.Refusals.{IsOutOfMemory};
-ghost use Rattle.daachorse_array.specs.Edges.{members};
+ghost use Rattle.daachorse_array.specs.Arrays.{AreGroups};
 ghost use Rattle.daachorse_array.specs.Linked.{IsPut};
 
 use crate::array::Array;
@@ -37,9 +37,7 @@ impl<A: Allocator + Copy> Siblings<A> {
     /// Out of memory.
     #[inline(always)]
     pub fn new<E: Array>(alloc: A, edges: &E) -> Result<Self>
-        ensures ok { IfOk result (λ groups. (g : ℕ) → g < E.count edges.now
-            → slice_index_or groups g [] ≡ members (E.edge edges.now) g (E.count edges.now)) }
-        ensures size { IfOk result (λ groups. length groups ≡ E.count edges.now) }
+        ensures ok { IfOk result (AreGroups (E.sees edges.now)) }
         ensures err { IfErr result IsOutOfMemory }
     {
         let count = edges.num_elements();
@@ -69,10 +67,10 @@ impl<A: Allocator> Siblings<A> {
 /// Puts an element before the others of its group, and returns the link to these; 0 if it has no
 /// group.
 fn put_first<E: Array, A: Allocator>(edges: &E, element: usize, first: &mut Vec<u32, A>) -> u32
-    requires element { element < E.count edges.now }
-    requires few { E.count edges.now < 2 ^ 32 }
-    requires size { length first.old.items ≡ E.count edges.now }
-    ensures { IsPut (E.edge edges.now element) element first.old.items first.new.items result }
+    requires element { element < (E.sees edges.now).count }
+    requires few { (E.sees edges.now).count < 2 ^ 32 }
+    requires size { length first.old.items ≡ (E.sees edges.now).count }
+    ensures { IsPut ((E.sees edges.now).edge element) element first.old.items first.new.items result }
 {
     let Some((group, _unit)) = edges.edge(element) else {
         return 0;

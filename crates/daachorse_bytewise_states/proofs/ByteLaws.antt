@@ -23,6 +23,14 @@ below_256 true m n = omega arith
 below_256 false m n = omega arith
 
 module _ {V : Type 0} (p : Parts V) where
+  -- a byte leads to an element
+  pub child_inside : (i c j : ℕ) → child p i c ≡ Some j → (j < count p) × (c < 256)
+  child_inside i c j e =
+      let parts = child_at-inside (count p) c (base_of p i) c j (check_of p) e in
+      let check : check_of p j ≡ c = parts.1 in
+      let below : check_of p j < 256 = below_256 (is_leftmost p.kind) _ _ in
+      (parts.0, omega (arith, below, check))
+
   -- what a look at an element gives for a byte
   abbrev pub Gives : ℕ → ℕ → Look → Type 0
   Gives i c look = LooksOnce (content p) (IsState p) (text p) (dead p) (text p i) c look
@@ -35,17 +43,11 @@ module _ {V : Type 0} (p : Parts V) where
   pub valid_machine : IsValid p → IsMachine byte_width (machine p) (is_leftmost p.kind) (count p) 256
   valid_machine valid = record {
     some = valid.grouped.some;
-    inside = λ i c j e.
-        let parts = child_at-inside (count p) c (base_of p i) c j (check_of p) e in
-        let check : check_of p j ≡ c = parts.1 in
-        (parts.0, byte j c check);
+    inside = child_inside;
     outputs_inside = valid.sound.ranges.positions;
     parents_fall = valid.sound.parents_fall;
     right = valid.sound.right;
   }
-    where
-      byte : (j c : ℕ) → check_of p j ≡ c → c < 256
-      byte j c is = let below : check_of p j < 256 = below_256 (is_leftmost p.kind) _ _ in omega (arith, below, is)
 
   module _ (valid : IsValid p) where
     is_machine : IsMachine byte_width (machine p) (is_leftmost p.kind) (count p) 256

@@ -108,23 +108,17 @@ impl<'a, V: Copy, K: ForKinds> Array for Elements<'a, V, K> {
     ghost use Rattle.daachorse_bytewise_states.specs.Edges.{edge_of, group_of};
     ghost use Rattle.daachorse_bytewise_states.specs.Parts.{child, count, fail_of, output_of};
 
-    ghost count = { count };
-
-    ghost units = { λ p. 256 };
-
-    ghost child = { child };
-
-    ghost group = { group_of };
-
-    ghost edge = { edge_of };
-
-    ghost fail = { fail_of };
-
-    ghost first = { output_of };
-
-    ghost width = { λ p. byte_width };
-
-    ghost bytes = { λ byte. byte ∷ [] };
+    ghost sees = { λ p. record {
+      count = count p;
+      units = 256;
+      child = child p;
+      group = group_of p;
+      edge = edge_of p;
+      fail = fail_of p;
+      first = output_of p;
+      width = byte_width;
+      bytes = λ byte. byte ∷ [];
+    } };
 
     fn num_elements(&self) -> usize {
         if K::is_leftmost(self.kind) {

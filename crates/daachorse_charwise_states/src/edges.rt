@@ -140,23 +140,17 @@ impl<'a, V: Copy, A: Allocator> Array for Elements<'a, V, A> {
     ghost use Rattle.daachorse_charwise_states.specs.Edges.{edge_of};
     ghost use Rattle.daachorse_charwise_states.specs.Parts.{child, count, fail_of, output_of};
 
-    ghost count = { λ a. count a.parts };
-
-    ghost units = { λ a. length a.parts.coding.table };
-
-    ghost child = { λ a. child a.parts };
-
-    ghost group = { λ a i. Some i };
-
-    ghost edge = { edge_of };
-
-    ghost fail = { λ a. fail_of a.parts };
-
-    ghost first = { λ a. output_of a.parts };
-
-    ghost width = { λ a. char_width };
-
-    ghost bytes = { encode_utf8 };
+    ghost sees = { λ a. record {
+      count = count a.parts;
+      units = length a.parts.coding.table;
+      child = child a.parts;
+      group = λ i. Some i;
+      edge = edge_of a;
+      fail = fail_of a.parts;
+      first = output_of a.parts;
+      width = char_width;
+      bytes = encode_utf8;
+    } };
 
     fn num_elements(&self) -> usize {
         self.states.len()

@@ -1,12 +1,13 @@
 -- The chains of outputs of the elements at places.
 use Rattle.std.specs.Prelude.{◌≡◌, ◌≢◌, ℕ, ◌<◌, ◌==◌, Bool, true, false, cond, List, length, Option, slice_index, slice_index_or}
 use Rattle.daachorse_core.specs.declared.outputs.Output.{Output}
+use Rattle.daachorse_array.specs.Arrays.{ArrayView}
 use Rattle.daachorse_array.specs.Machines.{Machine, own_from}
 use Rattle.daachorse_checker.specs.Runs.{has_values}
 
--- an array as a machine
-abbrev pub machine_of : {V : Type 0} → (ℕ → ℕ → Option ℕ) → (ℕ → ℕ) → (ℕ → ℕ) → List (Output V) → Machine V
-machine_of child fail first outputs = record { child = child; fail = fail; output = first; outputs = outputs }
+-- an array with outputs as a machine
+abbrev pub machine_of : {V : Type 0} → ArrayView → List (Output V) → Machine V
+machine_of a outputs = record { child = a.child; fail = a.fail; output = a.first; outputs = outputs }
 
 -- The chain of element i, whose text has n bytes: behind its own outputs it goes on with that of its link, and it has own outputs if it is a leaf.
 pub record IsChained {V : Type 0} (a : Machine V) (leaf : Bool) (n i : ℕ) : Type 0 where

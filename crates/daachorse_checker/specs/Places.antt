@@ -1,6 +1,9 @@
 -- The elements of an array that texts lead to, at places: breadth first, each behind its parent.
 use Rattle.std.specs.Prelude.{◌≡◌, ℕ, ◌<◌, ◌≤◌, List, length, Option, Some, slice_index}
 use Rattle.daachorse_model.specs.Paths.{Leads}
+use Rattle.daachorse_array.specs.Arrays.{ArrayView}
+use Rattle.daachorse_array.specs.Listing.{unit_of}
+use Rattle.daachorse_checker.specs.declared.places.Places.{Places}
 
 -- no text leads to the dead element, and no two texts lead to one element
 pub record HasOnePath (child : ℕ → ℕ → Option ℕ) : Type 0 where
@@ -44,3 +47,12 @@ pub record ArePlaces (child : ℕ → ℕ → Option ℕ) (label : ℕ → ℕ) 
   pub places : HasPlaces child label order parents labels marks
   pub closed : IsClosed child order parents (length order)
   pub marks_each : length marks ≡ n
+
+module _ {A : Type 0} (a : ArrayView) (p : Places A) where
+  -- these are the places of the elements of an array
+  abbrev pub ArePlacesOf : Type 0
+  ArePlacesOf = ArePlaces a.child (λ j. unit_of (a.edge j)) a.count p.order.items p.parents.items p.labels.items p.marks.items
+
+  -- these are places of elements of an array, and those of the children of the first elements
+  abbrev pub IsPlaceWalkOf : ℕ → Type 0
+  IsPlaceWalkOf next = IsPlaceWalk a.child (λ j. unit_of (a.edge j)) a.count p.order.items p.parents.items p.labels.items p.marks.items next

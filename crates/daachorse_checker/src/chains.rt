@@ -2,9 +2,8 @@
 
 ghost use Rattle.std.specs.Prelude.{◌≡◌, ◌<◌, ◌≤◌, ◌^◌, ℕ, Some, true, false, length, slice_index, IfOk, IfErr};
 ghost use Rattle.daachorse_core.specs.Refusals.{IsOutOfMemory};
-ghost use Rattle.daachorse_array.specs.Listing.{unit_of};
 ghost use Rattle.daachorse_checker.specs.Chains.{AreLeavesOf, IsChained, machine_of};
-ghost use Rattle.daachorse_checker.specs.Places.{HasOnePath, ArePlaces};
+ghost use Rattle.daachorse_checker.specs.Places.{HasOnePath, ArePlacesOf};
 ghost use Rattle.daachorse_checker.specs.Runs.{AreRuns};
 ghost use Rattle.daachorse_checker.specs.Sizes.{AreSizes};
 
@@ -43,11 +42,11 @@ pub fn sizes<E: Array, A: Allocator + Copy>(
     array: &E,
     places: &Places<A>,
 ) -> Result<Vec<usize, A>>
-    requires inside { (i c j : ℕ) → E.child array.now i c ≡ Some j → (j < E.count array.now) × (c < E.units array.now) }
-    requires tree { HasOnePath (E.child array.now) }
-    requires places { ArePlaces (E.child array.now) (λ j. unit_of (E.edge array.now j)) (E.count array.now) places.now.order.items places.now.parents.items places.now.labels.items places.now.marks.items }
-    requires few { E.count array.now < 2 ^ 32 }
-    ensures ok { IfOk result (λ sizes. AreSizes (E.child array.now) (E.width array.now) places.now.order.items sizes.items) }
+    requires inside { let view = E.sees array.now in (i c j : ℕ) → view.child i c ≡ Some j → (j < view.count) × (c < view.units) }
+    requires tree { HasOnePath (E.sees array.now).child }
+    requires places { ArePlacesOf (E.sees array.now) places.now }
+    requires few { (E.sees array.now).count < 2 ^ 32 }
+    ensures ok { let view = E.sees array.now in IfOk result (λ sizes. AreSizes view.child view.width places.now.order.items sizes.items) }
     ensures each { IfOk result (λ sizes. length sizes.items ≡ length places.now.order.items) }
     ensures err { IfErr result IsOutOfMemory }
 {
@@ -73,13 +72,13 @@ pub fn chain_holds<V: Copy, E: Array>(
     size: usize,
     leaf: bool,
 ) -> bool
-    requires element { element < E.count array.now }
-    requires links { (i : ℕ) → i < E.count array.now → E.fail array.now i < E.count array.now }
-    requires positions { (i : ℕ) → i < E.count array.now → E.first array.now i ≤ length outputs.now }
+    requires element { element < (E.sees array.now).count }
+    requires links { let view = E.sees array.now in (i : ℕ) → i < view.count → view.fail i < view.count }
+    requires positions { let view = E.sees array.now in (i : ℕ) → i < view.count → view.first i ≤ length outputs.now }
     requires runs { AreRuns outputs.now runs.now }
     requires each { length runs.now ≡ length outputs.now }
-    ensures yes { result ≡ true → IsChained (machine_of (E.child array.now) (E.fail array.now) (E.first array.now) outputs.now) leaf size element }
-    ensures no { result ≡ false → IsChained (machine_of (E.child array.now) (E.fail array.now) (E.first array.now) outputs.now) leaf size element → ⊥ }
+    ensures yes { result ≡ true → IsChained (machine_of (E.sees array.now) outputs.now) leaf size element }
+    ensures no { result ≡ false → IsChained (machine_of (E.sees array.now) outputs.now) leaf size element → ⊥ }
 {
     let first = array.first(element as usize);
     let link = array.fail(element as usize);

@@ -3,12 +3,11 @@
 ghost use Rattle.std.specs.Prelude.{◌≡◌, ◌≢◌, ◌<◌, ◌≤◌, ◌^◌, ℕ, Some, true, false, cond, length, slice_index, slice_index_or, IfOk, IfErr};
 ghost use Rattle.daachorse_core.specs.Outputs.{ParentsFall};
 ghost use Rattle.daachorse_core.specs.Refusals.{IsOutOfMemory};
-ghost use Rattle.daachorse_array.specs.Edges.{TellChildren};
-ghost use Rattle.daachorse_array.specs.Listing.{unit_of};
+ghost use Rattle.daachorse_array.specs.Arrays.{HasEdges};
 ghost use Rattle.daachorse_array.specs.Machines.{IsCounted, IsRight, own_from};
 ghost use Rattle.daachorse_checker.specs.Chains.{HaveRightChains, AreLeavesOf, AreStopsAt, machine_of};
 ghost use Rattle.daachorse_checker.specs.Links.{HasRightLinks};
-ghost use Rattle.daachorse_checker.specs.Places.{HasOnePath, ArePlaces};
+ghost use Rattle.daachorse_checker.specs.Places.{HasOnePath, ArePlacesOf};
 ghost use Rattle.daachorse_checker.specs.Runs.{AreRuns};
 ghost use Rattle.daachorse_checker.specs.Sizes.{AreSizes};
 ghost use Rattle.daachorse_checker.specs.Sound.{IsSoundArray};
@@ -33,16 +32,16 @@ fn chains_hold<V: Copy, E: Array, A: Allocator>(
     sizes: &[usize],
     leaves: &[bool],
 ) -> bool
-    requires places { ArePlaces (E.child array.now) (λ j. unit_of (E.edge array.now j)) (E.count array.now) places.now.order.items places.now.parents.items places.now.labels.items places.now.marks.items }
-    requires some { 0 < E.count array.now }
-    requires links { (i : ℕ) → i < E.count array.now → E.fail array.now i < E.count array.now }
-    requires positions { (i : ℕ) → i < E.count array.now → E.first array.now i ≤ length outputs.now }
+    requires places { ArePlacesOf (E.sees array.now) places.now }
+    requires some { 0 < (E.sees array.now).count }
+    requires links { let view = E.sees array.now in (i : ℕ) → i < view.count → view.fail i < view.count }
+    requires positions { let view = E.sees array.now in (i : ℕ) → i < view.count → view.first i ≤ length outputs.now }
     requires runs { AreRuns outputs.now runs.now }
     requires each { length runs.now ≡ length outputs.now }
     requires sizes { length sizes.now ≡ length places.now.order.items }
     requires leaves { length leaves.now ≡ length places.now.order.items }
-    ensures yes { result ≡ true → HaveRightChains (machine_of (E.child array.now) (E.fail array.now) (E.first array.now) outputs.now) places.now.order.items sizes.now leaves.now (length places.now.order.items) }
-    ensures no { result ≡ false → HaveRightChains (machine_of (E.child array.now) (E.fail array.now) (E.first array.now) outputs.now) places.now.order.items sizes.now leaves.now (length places.now.order.items) → ⊥ }
+    ensures yes { result ≡ true → HaveRightChains (machine_of (E.sees array.now) outputs.now) places.now.order.items sizes.now leaves.now (length places.now.order.items) }
+    ensures no { result ≡ false → HaveRightChains (machine_of (E.sees array.now) outputs.now) places.now.order.items sizes.now leaves.now (length places.now.order.items) → ⊥ }
 {
     let first = array.first(0);
     if rest_at(outputs, runs, 0, first) != 0 {
@@ -71,10 +70,10 @@ fn stops<V: Copy, E: Array, A: Allocator + Copy>(
     sizes: &[usize],
     leftmost: bool,
 ) -> Result<Vec<bool, A>>
-    requires places { ArePlaces (E.child array.now) (λ j. unit_of (E.edge array.now j)) (E.count array.now) places.now.order.items places.now.parents.items places.now.labels.items places.now.marks.items }
-    requires positions { (i : ℕ) → i < E.count array.now → E.first array.now i ≤ length outputs.now }
+    requires places { ArePlacesOf (E.sees array.now) places.now }
+    requires positions { let view = E.sees array.now in (i : ℕ) → i < view.count → view.first i ≤ length outputs.now }
     requires sizes { length sizes.now ≡ length places.now.order.items }
-    ensures ok { IfOk result (λ stops. AreStopsAt (machine_of (E.child array.now) (E.fail array.now) (E.first array.now) outputs.now) leftmost places.now.order.items sizes.now stops.items) }
+    ensures ok { IfOk result (λ stops. AreStopsAt (machine_of (E.sees array.now) outputs.now) leftmost places.now.order.items sizes.now stops.items) }
     ensures each { IfOk result (λ stops. length stops.items ≡ length places.now.order.items) }
     ensures err { IfErr result IsOutOfMemory }
 {
@@ -103,17 +102,16 @@ fn links_hold<V: Copy, E: Array, A: Allocator + Copy>(
     sizes: &[usize],
     leftmost: bool,
 ) -> Result<bool>
-    requires inside { (i c j : ℕ) → E.child array.now i c ≡ Some j → (j < E.count array.now) × (c < E.units array.now) }
-    requires tell { TellChildren (E.child array.now) (E.group array.now) (E.edge array.now) (E.count array.now) }
-    requires few { E.count array.now < 2 ^ 32 }
-    requires tree { HasOnePath (E.child array.now) }
-    requires places { ArePlaces (E.child array.now) (λ j. unit_of (E.edge array.now j)) (E.count array.now) places.order.items places.parents.items places.labels.items places.marks.items }
-    requires links { (i : ℕ) → i < E.count array.now → E.fail array.now i < E.count array.now }
-    requires positions { (i : ℕ) → i < E.count array.now → E.first array.now i ≤ length outputs.now }
-    requires sized { AreSizes (E.child array.now) (E.width array.now) places.order.items sizes.now }
+    requires edges { HasEdges (E.sees array.now) }
+    requires few { (E.sees array.now).count < 2 ^ 32 }
+    requires tree { HasOnePath (E.sees array.now).child }
+    requires places { ArePlacesOf (E.sees array.now) places }
+    requires links { let view = E.sees array.now in (i : ℕ) → i < view.count → view.fail i < view.count }
+    requires positions { let view = E.sees array.now in (i : ℕ) → i < view.count → view.first i ≤ length outputs.now }
+    requires sized { let view = E.sees array.now in AreSizes view.child view.width places.order.items sizes.now }
     requires sizes { length sizes.now ≡ length places.order.items }
-    ensures yes { IfOk result (λ right. right ≡ true → HasRightLinks (E.width array.now) (machine_of (E.child array.now) (E.fail array.now) (E.first array.now) outputs.now) leftmost) }
-    ensures no { IfOk result (λ right. right ≡ false → HasRightLinks (E.width array.now) (machine_of (E.child array.now) (E.fail array.now) (E.first array.now) outputs.now) leftmost → ⊥) }
+    ensures yes { let view = E.sees array.now in IfOk result (λ right. right ≡ true → HasRightLinks view.width (machine_of view outputs.now) leftmost) }
+    ensures no { let view = E.sees array.now in IfOk result (λ right. right ≡ false → HasRightLinks view.width (machine_of view outputs.now) leftmost → ⊥) }
     ensures err { IfErr result IsOutOfMemory }
 {
     let Some(fails) = link_places(alloc, array, &places, leftmost)? else {
@@ -142,18 +140,17 @@ pub fn is_right<V: Copy, E: Array, A: Allocator + Copy>(
     leftmost: bool,
     num_states: u32,
 ) -> Result<bool>
-    requires inside { (i c j : ℕ) → E.child array.now i c ≡ Some j → (j < E.count array.now) × (c < E.units array.now) }
-    requires tell { TellChildren (E.child array.now) (E.group array.now) (E.edge array.now) (E.count array.now) }
-    requires some { 0 < E.count array.now }
-    requires few { E.count array.now < 2 ^ 32 }
-    requires links { (i : ℕ) → i < E.count array.now → E.fail array.now i < E.count array.now }
-    requires positions { (i : ℕ) → i < E.count array.now → E.first array.now i ≤ length outputs.now }
+    requires edges { HasEdges (E.sees array.now) }
+    requires some { 0 < (E.sees array.now).count }
+    requires few { (E.sees array.now).count < 2 ^ 32 }
+    requires links { let view = E.sees array.now in (i : ℕ) → i < view.count → view.fail i < view.count }
+    requires positions { let view = E.sees array.now in (i : ℕ) → i < view.count → view.first i ≤ length outputs.now }
     requires outputs { length outputs.now < 2 ^ 32 }
     requires falls { ParentsFall outputs.now }
-    ensures yes { IfOk result (λ right. right ≡ true → IsRight (E.width array.now) (machine_of (E.child array.now) (E.fail array.now) (E.first array.now) outputs.now) leftmost
-        × IsCounted (machine_of (E.child array.now) (E.fail array.now) (E.first array.now) outputs.now) num_states) }
-    ensures no { IfOk result (λ right. right ≡ false → IsRight (E.width array.now) (machine_of (E.child array.now) (E.fail array.now) (E.first array.now) outputs.now) leftmost
-        → IsCounted (machine_of (E.child array.now) (E.fail array.now) (E.first array.now) outputs.now) num_states → ⊥) }
+    ensures yes { let view = E.sees array.now in IfOk result (λ right. right ≡ true → IsRight view.width (machine_of view outputs.now) leftmost
+        × IsCounted (machine_of view outputs.now) num_states) }
+    ensures no { let view = E.sees array.now in IfOk result (λ right. right ≡ false → IsRight view.width (machine_of view outputs.now) leftmost
+        → IsCounted (machine_of view outputs.now) num_states → ⊥) }
     ensures err { IfErr result IsOutOfMemory }
 {
     let Some(places) = Places::new(alloc, array)? else {
@@ -184,13 +181,12 @@ pub fn is_sound<V: Copy, E: Array, A: Allocator + Copy>(
     leftmost: bool,
     num_states: u32,
 ) -> Result<bool>
-    requires inside { (i c j : ℕ) → E.child array.now i c ≡ Some j → (j < E.count array.now) × (c < E.units array.now) }
-    requires tell { TellChildren (E.child array.now) (E.group array.now) (E.edge array.now) (E.count array.now) }
-    requires some { 0 < E.count array.now }
-    requires few { E.count array.now < 2 ^ 32 }
+    requires edges { HasEdges (E.sees array.now) }
+    requires some { 0 < (E.sees array.now).count }
+    requires few { (E.sees array.now).count < 2 ^ 32 }
     requires outputs { length outputs.now < 2 ^ 32 }
-    ensures yes { IfOk result (λ sound. sound ≡ true → IsSoundArray (E.width array.now) (machine_of (E.child array.now) (E.fail array.now) (E.first array.now) outputs.now) leftmost (E.count array.now) num_states) }
-    ensures no { IfOk result (λ sound. sound ≡ false → IsSoundArray (E.width array.now) (machine_of (E.child array.now) (E.fail array.now) (E.first array.now) outputs.now) leftmost (E.count array.now) num_states → ⊥) }
+    ensures yes { let view = E.sees array.now in IfOk result (λ sound. sound ≡ true → IsSoundArray view.width (machine_of view outputs.now) leftmost view.count num_states) }
+    ensures no { let view = E.sees array.now in IfOk result (λ sound. sound ≡ false → IsSoundArray view.width (machine_of view outputs.now) leftmost view.count num_states → ⊥) }
     ensures err { IfErr result IsOutOfMemory }
 {
     if !ranges_hold(array, outputs.len()) {

@@ -1,8 +1,8 @@
 //! Whether a prefilter passes at each key of an array.
 
-ghost use Rattle.std.specs.Prelude.{◌≡◌, ◌++◌, ◌<◌, ℕ, List, [], All, Some, true, false, length, slice_index_or, IfOk, IfErr, IfSome, IfNone};
+ghost use Rattle.std.specs.Prelude.{◌≡◌, ◌++◌, ◌<◌, ℕ, List, All, true, false, length, IfOk, IfErr, IfSome, IfNone};
 ghost use Rattle.daachorse_core.specs.Refusals.{IsOutOfMemory};
-ghost use Rattle.daachorse_array.specs.Edges.{TellChildren, members};
+ghost use Rattle.daachorse_array.specs.Arrays.{AreGroups, HasEdges};
 ghost use Rattle.daachorse_array.specs.Listing.{has_own, unit_of};
 ghost use Rattle.daachorse_prefilter.specs.Windows.{HasRead};
 ghost use Rattle.daachorse_checker.specs.Filters.{HasRefused, IsNextOf, IsPushed, PassesAll};
@@ -26,12 +26,11 @@ pub fn passes_all<E: Array, A: Allocator + Copy, B: Allocator>(
     array: &E,
     filter: &Prefilter<B>,
 ) -> Result<bool>
-    requires inside { (i c j : ℕ) → E.child array.now i c ≡ Some j → (j < E.count array.now) × (c < E.units array.now) }
-    requires tell { TellChildren (E.child array.now) (E.group array.now) (E.edge array.now) (E.count array.now) }
-    requires some { 0 < E.count array.now }
-    requires tree { HasOnePath (E.child array.now) }
-    ensures yes { IfOk result (λ passes. passes ≡ true → PassesAll (E.child array.now) E.bytes (has_own (E.fail array.now) (E.first array.now)) filter.now) }
-    ensures no { IfOk result (λ passes. passes ≡ false → PassesAll (E.child array.now) E.bytes (has_own (E.fail array.now) (E.first array.now)) filter.now → ⊥) }
+    requires edges { HasEdges (E.sees array.now) }
+    requires some { 0 < (E.sees array.now).count }
+    requires tree { HasOnePath (E.sees array.now).child }
+    ensures yes { let view = E.sees array.now in IfOk result (λ passes. passes ≡ true → PassesAll view.child view.bytes (has_own view.fail view.first) filter.now) }
+    ensures no { let view = E.sees array.now in IfOk result (λ passes. passes ≡ false → PassesAll view.child view.bytes (has_own view.fail view.first) filter.now → ⊥) }
     ensures err { IfErr result IsOutOfMemory }
 {
     let groups = Siblings::new(alloc, array)?;
@@ -58,14 +57,11 @@ fn next_level<E: Array, A: Allocator + Copy, B: Allocator>(
     filter: &Prefilter<B>,
     level: &[(u32, Window)],
 ) -> Result<Option<Vec<(u32, Window), A>>>
-    requires tell { TellChildren (E.child array.now) (E.group array.now) (E.edge array.now) (E.count array.now) }
-    requires groups { (g : ℕ) → g < E.count array.now
-        → slice_index_or groups.now g [] ≡ members (E.edge array.now) g (E.count array.now) }
-    requires each { length groups.now ≡ E.count array.now }
-    requires inside { (i c j : ℕ) → E.child array.now i c ≡ Some j → (j < E.count array.now) × (c < E.units array.now) }
-    requires elements { All (λ e. e.0 < E.count array.now) level.now }
-    ensures some { IfOk result (λ found. IfSome found (λ next. IsNextOf (E.child array.now) E.bytes filter.now (has_own (E.fail array.now) (E.first array.now)) level.now (length level.now) next.items)) }
-    ensures none { IfOk result (λ found. IfNone found (HasRefused filter.now (has_own (E.fail array.now) (E.first array.now)) level.now)) }
+    requires edges { HasEdges (E.sees array.now) }
+    requires groups { AreGroups (E.sees array.now) groups.now }
+    requires elements { All (λ e. e.0 < (E.sees array.now).count) level.now }
+    ensures some { let view = E.sees array.now in IfOk result (λ found. IfSome found (λ next. IsNextOf view.child view.bytes filter.now (has_own view.fail view.first) level.now (length level.now) next.items)) }
+    ensures none { let view = E.sees array.now in IfOk result (λ found. IfNone found (HasRefused filter.now (has_own view.fail view.first) level.now)) }
     ensures err { IfErr result IsOutOfMemory }
 {
     let mut next = Vec::new(alloc);
@@ -91,13 +87,10 @@ fn push_children<E: Array, A: Allocator, B: Allocator>(
     entry: (u32, Window),
     next: &mut Vec<(u32, Window), A>,
 ) -> Result<()>
-    requires tell { TellChildren (E.child array.now) (E.group array.now) (E.edge array.now) (E.count array.now) }
-    requires groups { (g : ℕ) → g < E.count array.now
-        → slice_index_or groups.now g [] ≡ members (E.edge array.now) g (E.count array.now) }
-    requires each { length groups.now ≡ E.count array.now }
-    requires inside { (i c j : ℕ) → E.child array.now i c ≡ Some j → (j < E.count array.now) × (c < E.units array.now) }
-    requires element { entry.0 < E.count array.now }
-    ensures ok { IfOk result (λ done. IsPushed (E.child array.now) E.bytes filter.now entry next.old.items next.new.items) }
+    requires edges { HasEdges (E.sees array.now) }
+    requires groups { AreGroups (E.sees array.now) groups.now }
+    requires element { entry.0 < (E.sees array.now).count }
+    ensures ok { let view = E.sees array.now in IfOk result (λ done. IsPushed view.child view.bytes filter.now entry next.old.items next.new.items) }
     ensures err { IfErr result IsOutOfMemory }
 {
     let Some(group) = array.group(entry.0 as usize) else {
@@ -117,9 +110,9 @@ fn read<E: Array, B: Allocator>(
     filter: &Prefilter<B>,
     window: Window,
 ) -> Window
-    requires { element < E.count array.now }
-    ensures { (text : List ℕ) → HasRead filter.now text window
-        → HasRead filter.now (text ++ E.bytes (unit_of (E.edge array.now element))) result }
+    requires { element < (E.sees array.now).count }
+    ensures { let view = E.sees array.now in (text : List ℕ) → HasRead filter.now text window
+        → HasRead filter.now (text ++ view.bytes (unit_of (view.edge element))) result }
 {
     let mut buffer = [0; 4];
     filter.read(window, array.spell(element, &mut buffer))

@@ -3,10 +3,10 @@
 ghost use Rattle.std.specs.Prelude.{◌≡◌, ◌<◌, ◌^◌, ℕ, Some, true, false, length, slice_index, IfOk, IfErr};
 ghost use Rattle.daachorse_core.specs.Refusals.{IsOutOfMemory};
 ghost use Rattle.daachorse_model.specs.Folding.{folded_unit};
+ghost use Rattle.daachorse_array.specs.Arrays.{HasEdges};
 ghost use Rattle.daachorse_array.specs.Edges.{TellChildren};
-ghost use Rattle.daachorse_array.specs.Listing.{unit_of};
 ghost use Rattle.daachorse_checker.specs.Folded.{HasFoldedUnits, IsUnfoldedAt};
-ghost use Rattle.daachorse_checker.specs.Places.{ArePlaces, HasOnePath};
+ghost use Rattle.daachorse_checker.specs.Places.{ArePlacesOf, HasOnePath};
 
 use crate::places::Places;
 use daachorse_array::array::Array;
@@ -18,12 +18,11 @@ use std::alloc::Allocator;
 /// # Errors
 /// Out of memory.
 pub fn is_folded<E: Array, A: Allocator + Copy>(alloc: A, array: &E) -> Result<bool>
-    requires inside { (i c j : ℕ) → E.child array.now i c ≡ Some j → (j < E.count array.now) × (c < E.units array.now) }
-    requires tell { TellChildren (E.child array.now) (E.group array.now) (E.edge array.now) (E.count array.now) }
-    requires some { 0 < E.count array.now }
-    requires tree { HasOnePath (E.child array.now) }
-    ensures yes { IfOk result (λ folded. folded ≡ true → HasFoldedUnits (E.child array.now)) }
-    ensures no { IfOk result (λ folded. folded ≡ false → HasFoldedUnits (E.child array.now) → ⊥) }
+    requires edges { HasEdges (E.sees array.now) }
+    requires some { 0 < (E.sees array.now).count }
+    requires tree { HasOnePath (E.sees array.now).child }
+    ensures yes { IfOk result (λ folded. folded ≡ true → HasFoldedUnits (E.sees array.now).child) }
+    ensures no { IfOk result (λ folded. folded ≡ false → HasFoldedUnits (E.sees array.now).child → ⊥) }
     ensures err { IfErr result IsOutOfMemory }
 {
     let Some(places) = Places::new(alloc, array)? else {
@@ -35,10 +34,10 @@ pub fn is_folded<E: Array, A: Allocator + Copy>(alloc: A, array: &E) -> Result<b
 
 /// [`is_folded`], for an array with these places. Only the contract names the array.
 fn has_folded_labels<E: Array, A: Allocator>(_array: &E, places: &Places<A>) -> bool
-    requires tell { TellChildren (E.child _array.now) (E.group _array.now) (E.edge _array.now) (E.count _array.now) }
-    requires places { ArePlaces (E.child _array.now) (λ j. unit_of (E.edge _array.now j)) (E.count _array.now) places.now.order.items places.now.parents.items places.now.labels.items places.now.marks.items }
-    ensures yes { result ≡ true → HasFoldedUnits (E.child _array.now) }
-    ensures no { result ≡ false → HasFoldedUnits (E.child _array.now) → ⊥ }
+    requires tell { let view = E.sees _array.now in TellChildren view.child view.group view.edge view.count }
+    requires places { ArePlacesOf (E.sees _array.now) places.now }
+    ensures yes { result ≡ true → HasFoldedUnits (E.sees _array.now).child }
+    ensures no { result ≡ false → HasFoldedUnits (E.sees _array.now).child → ⊥ }
 {
     are_folded(&places.labels)
 }

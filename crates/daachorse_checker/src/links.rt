@@ -2,9 +2,8 @@
 
 ghost use Rattle.std.specs.Prelude.{◌≡◌, ◌<◌, ◌^◌, ℕ, Some, length, slice_index, IfOk, IfErr, IfSome, IfNone};
 ghost use Rattle.daachorse_core.specs.Refusals.{IsOutOfMemory};
-ghost use Rattle.daachorse_array.specs.Listing.{unit_of};
 ghost use Rattle.daachorse_checker.specs.Links.{AreLinkPlaces, LeadsToNoPlace, IsLinkPlace, IsNoPlace};
-ghost use Rattle.daachorse_checker.specs.Places.{ArePlaces};
+ghost use Rattle.daachorse_checker.specs.Places.{ArePlacesOf};
 
 use crate::places::Places;
 use daachorse_array::array::Array;
@@ -20,12 +19,12 @@ fn link_place<E: Array, A: Allocator>(
     element: u32,
     leftmost: bool,
 ) -> Option<u32>
-    requires places { ArePlaces (E.child array.now) (λ j. unit_of (E.edge array.now j)) (E.count array.now) places.now.order.items places.now.parents.items places.now.labels.items places.now.marks.items }
+    requires places { ArePlacesOf (E.sees array.now) places.now }
     requires few { length places.now.order.items < 2 ^ 32 }
-    requires element { element < E.count array.now }
-    requires links { (i : ℕ) → i < E.count array.now → E.fail array.now i < E.count array.now }
-    ensures some { IfSome result (λ r. IsLinkPlace places.now.order.items (E.fail array.now element) r) }
-    ensures none { IfNone result (IsNoPlace leftmost places.now.order.items (E.fail array.now element)) }
+    requires element { element < (E.sees array.now).count }
+    requires links { let view = E.sees array.now in (i : ℕ) → i < view.count → view.fail i < view.count }
+    ensures some { IfSome result (λ r. IsLinkPlace places.now.order.items ((E.sees array.now).fail element) r) }
+    ensures none { IfNone result (IsNoPlace leftmost places.now.order.items ((E.sees array.now).fail element)) }
 {
     let link = array.fail(element as usize);
     if link == DEAD_STATE_IDX {
@@ -54,12 +53,12 @@ pub fn link_places<E: Array, A: Allocator + Copy>(
     places: &Places<A>,
     leftmost: bool,
 ) -> Result<Option<Vec<u32, A>>>
-    requires places { ArePlaces (E.child array.now) (λ j. unit_of (E.edge array.now j)) (E.count array.now) places.now.order.items places.now.parents.items places.now.labels.items places.now.marks.items }
+    requires places { ArePlacesOf (E.sees array.now) places.now }
     requires few { length places.now.order.items < 2 ^ 32 }
-    requires links { (i : ℕ) → i < E.count array.now → E.fail array.now i < E.count array.now }
-    ensures some { IfOk result (λ found. IfSome found (λ fails. AreLinkPlaces (E.fail array.now) places.now.order.items fails.items)) }
+    requires links { let view = E.sees array.now in (i : ℕ) → i < view.count → view.fail i < view.count }
+    ensures some { IfOk result (λ found. IfSome found (λ fails. AreLinkPlaces (E.sees array.now).fail places.now.order.items fails.items)) }
     ensures each { IfOk result (λ found. IfSome found (λ fails. length fails.items ≡ length places.now.order.items)) }
-    ensures none { IfOk result (λ found. IfNone found (LeadsToNoPlace leftmost (E.fail array.now) places.now.order.items)) }
+    ensures none { IfOk result (λ found. IfNone found (LeadsToNoPlace leftmost (E.sees array.now).fail places.now.order.items)) }
     ensures err { IfErr result IsOutOfMemory }
 {
     let mut fails = Vec::with_capacity(alloc, places.order.len())?;

@@ -2,11 +2,11 @@
 //!
 //! The walk ends at the first element that it comes to twice, so that it is linear in the elements.
 
-ghost use Rattle.std.specs.Prelude.{◌≡◌, ◌+◌, ◌<◌, ◌^◌, ℕ, [], true, false, length, slice_index_or, IfOk, IfErr, IfSome, IfNone};
+ghost use Rattle.std.specs.Prelude.{◌≡◌, ◌+◌, ◌<◌, ◌^◌, true, false, length, IfOk, IfErr, IfSome, IfNone};
 ghost use Rattle.daachorse_core.specs.Refusals.{IsOutOfMemory};
-ghost use Rattle.daachorse_array.specs.Edges.{TellChildren, members};
+ghost use Rattle.daachorse_array.specs.Arrays.{AreGroups, HasEdges};
 ghost use Rattle.daachorse_array.specs.Listing.{unit_of};
-ghost use Rattle.daachorse_checker.specs.Places.{HasOnePath, ArePlaces, IsPlaceWalk};
+ghost use Rattle.daachorse_checker.specs.Places.{HasOnePath, ArePlacesOf, IsPlaceWalkOf};
 
 use daachorse_array::array::Array;
 use daachorse_array::siblings::Siblings;
@@ -33,12 +33,11 @@ impl<A: Allocator + Copy> Places<A> {
     /// Out of memory.
     #[inline(always)]
     pub fn new<E: Array>(alloc: A, array: &E) -> Result<Option<Self>>
-        requires inside { (i c j : ℕ) → E.child array.now i c ≡ Some j → (j < E.count array.now) × (c < E.units array.now) }
-        requires tell { TellChildren (E.child array.now) (E.group array.now) (E.edge array.now) (E.count array.now) }
-        requires some { 0 < E.count array.now }
-        ensures yes { IfOk result (λ found. IfSome found (λ p. HasOnePath (E.child array.now)
-            × ArePlaces (E.child array.now) (λ j. unit_of (E.edge array.now j)) (E.count array.now) p.order.items p.parents.items p.labels.items p.marks.items)) }
-        ensures no { IfOk result (λ found. IfNone found (HasOnePath (E.child array.now) → ⊥)) }
+        requires edges { HasEdges (E.sees array.now) }
+        requires some { 0 < (E.sees array.now).count }
+        ensures yes { let view = E.sees array.now in IfOk result (λ found. IfSome found (λ p. HasOnePath view.child
+            × ArePlacesOf view p)) }
+        ensures no { IfOk result (λ found. IfNone found (HasOnePath (E.sees array.now).child → ⊥)) }
         ensures err { IfErr result IsOutOfMemory }
     {
         let groups = Siblings::new(alloc, array)?;
@@ -66,16 +65,13 @@ impl<A: Allocator + Copy> Places<A> {
     /// is the root or the dead element.
     #[inline(always)]
     fn expand<E: Array>(&mut self, array: &E, groups: &Siblings<A>, place: u32) -> Result<bool>
-        requires inside { (i c j : ℕ) → E.child array.now i c ≡ Some j → (j < E.count array.now) × (c < E.units array.now) }
-        requires tell { TellChildren (E.child array.now) (E.group array.now) (E.edge array.now) (E.count array.now) }
-        requires groups { (g : ℕ) → g < E.count array.now
-            → slice_index_or groups.now g [] ≡ members (E.edge array.now) g (E.count array.now) }
-        requires each { length groups.now ≡ E.count array.now }
-        requires few { E.count array.now < 2 ^ 32 }
-        requires walk { IsPlaceWalk (E.child array.now) (λ j. unit_of (E.edge array.now j)) (E.count array.now) self.old.order.items self.old.parents.items self.old.labels.items self.old.marks.items place }
+        requires edges { HasEdges (E.sees array.now) }
+        requires groups { AreGroups (E.sees array.now) groups.now }
+        requires few { (E.sees array.now).count < 2 ^ 32 }
+        requires walk { IsPlaceWalkOf (E.sees array.now) self.old place }
         requires more { place < length self.old.order.items }
-        ensures yes { IfOk result (λ found. found ≡ true → IsPlaceWalk (E.child array.now) (λ j. unit_of (E.edge array.now j)) (E.count array.now) self.new.order.items self.new.parents.items self.new.labels.items self.new.marks.items (place + 1)) }
-        ensures no { IfOk result (λ found. found ≡ false → HasOnePath (E.child array.now) → ⊥) }
+        ensures yes { IfOk result (λ found. found ≡ true → IsPlaceWalkOf (E.sees array.now) self.new (place + 1)) }
+        ensures no { IfOk result (λ found. found ≡ false → HasOnePath (E.sees array.now).child → ⊥) }
         ensures err { IfErr result IsOutOfMemory }
     {
         let element = self.order[place as usize];
@@ -100,8 +96,8 @@ impl<A: Allocator + Copy> Places<A> {
 
 /// The unit that leads to an element.
 fn unit_at<E: Array>(array: &E, element: u32) -> u32
-    requires { element < E.count array.now }
-    ensures { result ≡ unit_of (E.edge array.now element) }
+    requires { element < (E.sees array.now).count }
+    ensures { result ≡ unit_of ((E.sees array.now).edge element) }
 {
     match array.edge(element as usize) {
         Some((_group, unit)) => unit as u32,

@@ -8,8 +8,8 @@ use daachorse_array::array::Array;
 /// Whether each link is an element and each position is at most `num_outputs`. Elements that no
 /// text leads to count too.
 pub fn ranges_hold<E: Array>(array: &E, num_outputs: usize) -> bool
-    ensures yes { result ≡ true → IsInRange (E.fail array.now) (E.first array.now) (E.count array.now) num_outputs }
-    ensures no { result ≡ false → IsInRange (E.fail array.now) (E.first array.now) (E.count array.now) num_outputs → ⊥ }
+    ensures yes { let view = E.sees array.now in result ≡ true → IsInRange view.fail view.first view.count num_outputs }
+    ensures no { let view = E.sees array.now in result ≡ false → IsInRange view.fail view.first view.count num_outputs → ⊥ }
 {
     let count = array.num_elements();
     let mut element: usize = 0;

@@ -7,8 +7,8 @@ use Rattle.daachorse_array.proofs.children.list_children.Given as goal
 
 abbrev pub invariant-loop-member : goal.invariant-loop-member
 invariant-loop-member g l =
-    let edge = g.E.Array.edge l.edges in
-    let count = g.E.Array.count l.edges in
+    let edge = (g.E.Array.sees l.edges).edge in
+    let count = (g.E.Array.sees l.edges).count in
     record {
       less : AllByRecursion (λ j. (j < count) × (is_in l.group (edge j) ≡ true)) l.member-iterator;
       done : l.list.items ++ map (kid_of edge) l.member-iterator ≡ map (kid_of edge) (members edge l.group count);

@@ -7,9 +7,9 @@ use Rattle.daachorse_array.proofs.climbs.climb.Given as goal
 
 abbrev pub invariant-up : goal.invariant-up
 invariant-up g l =
-    let child = g.E.Array.child l.edges in
-    let n = g.E.Array.count l.edges in
-    let m = g.E.Array.units l.edges in
+    let child = (g.E.Array.sees l.edges).child in
+    let n = (g.E.Array.sees l.edges).count in
+    let m = (g.E.Array.sees l.edges).units in
     record {
       known : AreKnown child n m (reverse l.path.items) l.depths.items;
       climb : IsClimb child n m (reverse l.path.items) l.above;

@@ -9,7 +9,7 @@ use Rattle.daachorse_array.proofs.climbs.depths_by_parents.Goals as goal
 
 pub loop-element-init : goal.loop-element-init
 loop-element-init g c =
-    let count = g.E.Array.count c.args.edges.now in
+    let count = (g.E.Array.sees c.args.edges.now).count in
     let depths : c.in_ok-depths.depths.items ≡ replicate count 0 = c.in_ok-depths.ensures.items_if_clones_equal (λ y e. e) ∙ ap (λ k. replicate k 0) c.num_elements-count.ensures.all in
     record {
       known = known-start c.requires.tree c.in_ok-depths.depths.items depths;
@@ -47,5 +47,5 @@ loop-element-preserved g c =
 
 pub returns-clause-ok : goal.returns-clause-ok
 returns-clause-ok g c =
-    let end : c.loop-element.element ≡ g.E.Array.count c.args.edges.now = let past = c.loop-element-test.false in omega (arith, past, c.loop-element.auto.element-end, c.num_elements-count.ensures.all) in
+    let end : c.loop-element.element ≡ (g.E.Array.sees c.args.edges.now).count = let past = c.loop-element-test.false in omega (arith, past, c.loop-element.auto.element-end, c.num_elements-count.ensures.all) in
     known-end c.requires.tree c.loop-element.depths.items c.loop-element.invariant.known (λ i some less. c.loop-element.invariant.passed i some (omega (arith, less, end)))

@@ -6,8 +6,8 @@ use Rattle.daachorse_array.proofs.climbs.depths_by_parents.Given as goal
 
 abbrev pub invariant-loop-element : goal.invariant-loop-element
 invariant-loop-element g l = record {
-  known : AreKnown (g.E.Array.child l.edges) (g.E.Array.count l.edges) (g.E.Array.units l.edges) [] l.depths.items;
+  known : AreKnown (g.E.Array.sees l.edges).child (g.E.Array.sees l.edges).count (g.E.Array.sees l.edges).units [] l.depths.items;
   passed : (i : ℕ) → 0 < i → i < l.element → slice_index l.depths.items i ≢ 0;
   empty : l.path.items ≡ [];
-  room : g.E.Array.count l.edges ≤ vec_capacity l.path;
+  room : (g.E.Array.sees l.edges).count ≤ vec_capacity l.path;
 }

@@ -5,7 +5,7 @@ use Rattle.daachorse_array.proofs.depths.depths.Goals as goal
 
 pub elements-init : goal.elements-init
 elements-init g c =
-    let n = g.E.Array.count c.args.edges.now in
+    let n = (g.E.Array.sees c.args.edges.now).count in
     let reached : c.push_reserved.new.self.items ≡ 0 ∷ [] = c.push_reserved.ensures.items ∙ ap (λ l. l ++ 0 ∷ []) c.in_ok-reached.ensures.items in
     let depths : c.in_ok-depths.depths.items ≡ replicate n 4294967295 = c.in_ok-depths.ensures.items_if_clones_equal (λ y e. e) ∙ ap (λ k. replicate k 4294967295) c.num_elements-count.ensures.all in
     record {
@@ -31,7 +31,7 @@ note_children-requires-clause-room g c group own =
 
 pub elements-smaller : goal.elements-smaller
 elements-smaller g c =
-    let few : c.elements.entered < g.E.Array.count c.args.edges.now = entered-few c.requires.tree c.elements.invariant.reaching (omega (arith, c.elements-test.true, c.len.ensures)) c.index.ensures in
+    let few : c.elements.entered < (g.E.Array.sees c.args.edges.now).count = entered-few c.requires.tree c.elements.invariant.reaching (omega (arith, c.elements-test.true, c.len.ensures)) c.index.ensures in
     omega (arith, few)
 
 pub elements-preserved : goal.elements-preserved
@@ -40,3 +40,6 @@ elements-preserved g c = record {
       c.note_children.new.reached.items c.note_children.new.depths.items _ (add-one _) c.note_children.ensures.noted;
   room = omega (arith, c.elements.invariant.room, c.note_children.ensures.capacity);
 }
+
+pub note_children-requires-clause-edges : goal.note_children-requires-clause-edges
+note_children-requires-clause-edges g c = record { inside = c.requires.tree.inside; tell = c.requires.tell }

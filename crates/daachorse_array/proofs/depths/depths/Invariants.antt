@@ -6,9 +6,9 @@ use Rattle.daachorse_array.proofs.depths.depths.Given as goal
 
 abbrev pub invariant-elements : goal.invariant-elements
 invariant-elements g l = record {
-  reaching : IsReaching (g.E.Array.child l.edges) (g.E.Array.count l.edges) (g.E.Array.units l.edges) l.reached.items l.entered l.depths.items;
-  room : g.E.Array.count l.edges ≤ vec_capacity l.reached;
+  reaching : IsReaching (g.E.Array.sees l.edges).child (g.E.Array.sees l.edges).count (g.E.Array.sees l.edges).units l.reached.items l.entered l.depths.items;
+  room : (g.E.Array.sees l.edges).count ≤ vec_capacity l.reached;
 }
 
 abbrev pub decreases-elements : goal.decreases-elements
-decreases-elements g l = g.E.Array.count l.edges - l.entered
+decreases-elements g l = (g.E.Array.sees l.edges).count - l.entered

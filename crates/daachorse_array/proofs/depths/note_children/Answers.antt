@@ -10,16 +10,16 @@ use Rattle.daachorse_array.proofs.depths.note_children.Goals as goal
 
 pub returns-in_default-clause-noted : goal.returns-in_default-clause-noted
 returns-in_default-clause-noted g c =
-    noting-none (g.E.Array.child c.args.edges.now c.args.element) _ c.args.reached.now.items c.args.depths.now.items
-    (λ u. c.requires.tell.alone c.args.element u c.requires.element (sym c.in_default.ensures))
+    noting-none ((g.E.Array.sees c.args.edges.now).child c.args.element) _ c.args.reached.now.items c.args.depths.now.items
+    (λ u. c.requires.edges.tell.alone c.args.element u c.requires.element (sym c.in_default.ensures))
 
 pub loop-child-init : goal.loop-child-init
 loop-child-init g c =
-    let edge = g.E.Array.edge c.args.edges.now in
-    let count = g.E.Array.count c.args.edges.now in
+    let edge = (g.E.Array.sees c.args.edges.now).edge in
+    let count = (g.E.Array.sees c.args.edges.now).count in
     let all = members edge c.in-Some.group count in
     let is : c.into_iter-child-iterator.result ≡ all =
-    c.into_iter-child-iterator.ensures.into_iter_gives ∙ c.members-child-items.ensures ∙ c.requires.groups c.in-Some.group (c.requires.tell.inside c.args.element c.in-Some.group c.requires.element (sym c.in-Some.ensures)) in
+    c.into_iter-child-iterator.ensures.into_iter_gives ∙ c.members-child-items.ensures ∙ c.requires.groups.are c.in-Some.group (c.requires.edges.tell.inside c.args.element c.in-Some.group c.requires.element (sym c.in-Some.ensures)) in
     record {
       less = rw is (below-All (λ j. is_in c.in-Some.group (edge j)) count);
       done = ap (λ l. c.args.reached.now.items ++ l) is;
@@ -30,8 +30,8 @@ loop-child-init g c =
 
 pub loop-child-preserved : goal.loop-child-preserved
 loop-child-preserved g c =
-    let edge = g.E.Array.edge c.args.edges.now in
-    let count = g.E.Array.count c.args.edges.now in
+    let edge = (g.E.Array.sees c.args.edges.now).edge in
+    let count = (g.E.Array.sees c.args.edges.now).count in
     let all = members edge c.in-Some.group count in
     let child = c.in-Some-child.child in
     let left = c.next.new.self in
@@ -53,14 +53,14 @@ push_reserved-requires g c = omega (arith, c.loop-child.invariant.room, ap lengt
 
 pub returns-clause-noted : goal.returns-clause-noted
 returns-clause-noted g c =
-    let edge = g.E.Array.edge c.args.edges.now in
-    let count = g.E.Array.count c.args.edges.now in
+    let edge = (g.E.Array.sees c.args.edges.now).edge in
+    let count = (g.E.Array.sees c.args.edges.now).count in
     let all = members edge c.in-Some.group count in
     let inv = c.loop-child.invariant in
     let none = c.in-None.ensures.steps.0 in
     let done = rw none at inv.done in
     let marked = rw none at inv.marked in
     let read = get_or_read c.args.depths.now.items c.args.element c.index.result.now (omega (arith, c.requires.element, c.requires.size)) c.index.ensures 0 in
-    let P : ℕ → Type 0 = λ d. IsNoting (g.E.Array.child c.args.edges.now c.args.element) (d + 1) c.args.reached.now.items c.args.depths.now.items c.loop-child.reached.items c.loop-child.depths.items in
-    subst P read (noting-members c.requires.tell c.requires.inside c.args.element c.in-Some.group c.requires.element (sym c.in-Some.ensures) (c.index.result.now + 1) c.args.reached.now.items c.args.depths.now.items
+    let P : ℕ → Type 0 = λ d. IsNoting ((g.E.Array.sees c.args.edges.now).child c.args.element) (d + 1) c.args.reached.now.items c.args.depths.now.items c.loop-child.reached.items c.loop-child.depths.items in
+    subst P read (noting-members c.requires.edges.tell c.requires.edges.inside c.args.element c.in-Some.group c.requires.element (sym c.in-Some.ensures) (c.index.result.now + 1) c.args.reached.now.items c.args.depths.now.items
     c.loop-child.reached.items c.loop-child.depths.items (sym (append-nil c.loop-child.reached.items) ∙ done) marked)

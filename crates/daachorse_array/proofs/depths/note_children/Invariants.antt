@@ -8,8 +8,8 @@ use Rattle.daachorse_array.proofs.depths.note_children.Given as goal
 
 abbrev pub invariant-loop-child : goal.invariant-loop-child
 invariant-loop-child g l =
-    let edge = g.E.Array.edge l.edges in
-    let count = g.E.Array.count l.edges in
+    let edge = (g.E.Array.sees l.edges).edge in
+    let count = (g.E.Array.sees l.edges).count in
     let all = members edge l.group count in
     record {
       less : AllByRecursion (λ j. (j < count) × (is_in l.group (edge j) ≡ true)) l.child-iterator;

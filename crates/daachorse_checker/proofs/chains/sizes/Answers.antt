@@ -20,7 +20,7 @@ loop-place-init g c =
       within = omega (arith, c.requires.places.places.some);
       each = ap length zero;
       short = λ k lt. (let same : k ≡ 0 = omega (arith, lt, ap length zero) in omega (arith, ap (λ i. get_or items i 0) same, ap (λ (xs : List ℕ). get_or xs 0 0) zero));
-      are = size_root c.requires.places c.requires.tree (g.E.Array.width a) items zero;
+      are = size_root c.requires.places c.requires.tree (g.E.Array.sees a).width items zero;
     }
 
 pub overflow_add-size : goal.overflow_add-size
@@ -53,19 +53,19 @@ loop-place-preserved g c =
     let size : c.index-in-loop-place.result.now ≡ get_or sizes c.index.result.now 0 = get_or_read sizes c.index.result.now c.index-in-loop-place.result.now in' c.index-in-loop-place.ensures 0 in
     let label : c.index-in-loop-place-2.result.now ≡ get_or p.labels.items m 0 = get_or_read p.labels.items m c.index-in-loop-place-2.result.now (omega (arith, lt, places.label_each)) c.index-in-loop-place-2.ensures 0 in
     let s = c.index-in-loop-place.result.now + c.width.result in
-    let unit : c.width.result ≡ g.E.Array.width a (get_or p.labels.items m 0) = c.width.ensures.value ∙ ap (g.E.Array.width a) label in
+    let unit : c.width.result ≡ (g.E.Array.sees a).width (get_or p.labels.items m 0) = c.width.ensures.value ∙ ap (g.E.Array.sees a).width label in
     let from : get_or sizes c.index.result.now 0 ≡ get_or sizes (get_or p.parents.items m 0) 0 = ap (λ i. get_or sizes i 0) parent in
-    let value : s ≡ get_or sizes (get_or p.parents.items m 0) 0 + g.E.Array.width a (get_or p.labels.items m 0) = omega (arith, size, from, unit) in
+    let value : s ≡ get_or sizes (get_or p.parents.items m 0) 0 + (g.E.Array.sees a).width (get_or p.labels.items m 0) = omega (arith, size, from, unit) in
     let items : c.push-in-loop-place.new.self.items ≡ sizes ++ s ∷ [] = search rules in
     let fits : s ≤ 4 * m = omega (arith, size, inv.short c.index.result.now in', c.width.ensures.short, parent, up) in
-    let are : AreSizes (g.E.Array.child a) (g.E.Array.width a) p.order.items (sizes ++ s ∷ []) =
-    size_push c.requires.places c.requires.tree (g.E.Array.width a) sizes m s inv.low lt inv.each inv.are value in
+    let are : AreSizes (g.E.Array.sees a).child (g.E.Array.sees a).width p.order.items (sizes ++ s ∷ []) =
+    size_push c.requires.places c.requires.tree (g.E.Array.sees a).width sizes m s inv.low lt inv.each inv.are value in
     record {
       low = omega (arith, inv.low);
       within = omega (arith, lt);
       each = ap length items ∙ length_push sizes s ∙ ap (λ n. n + 1) inv.each;
       short = subst (λ (xs : List ℕ). (k : ℕ) → k < length xs → get_or xs k 0 ≤ 4 * k) (sym items) (short_push sizes m s inv.each inv.short fits);
-      are = subst (λ (xs : List ℕ). AreSizes (g.E.Array.child a) (g.E.Array.width a) p.order.items xs) (sym items) are;
+      are = subst (λ (xs : List ℕ). AreSizes (g.E.Array.sees a).child (g.E.Array.sees a).width p.order.items xs) (sym items) are;
     }
 
 pub returns-in_err-sizes : goal.returns-in_err-sizes

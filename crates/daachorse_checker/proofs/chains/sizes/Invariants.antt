@@ -9,7 +9,7 @@ invariant-loop-place g l = record {
   within : l.place ≤ length l.places.order.items;
   each : length l.sizes.items ≡ l.place;
   short : (k : ℕ) → k < length l.sizes.items → get_or l.sizes.items k 0 ≤ 4 * k;
-  are : AreSizes (g.E.Array.child l.array) (g.E.Array.width l.array) l.places.order.items l.sizes.items;
+  are : AreSizes (g.E.Array.sees l.array).child (g.E.Array.sees l.array).width l.places.order.items l.sizes.items;
 }
 
 abbrev pub decreases-loop-place : goal.decreases-loop-place

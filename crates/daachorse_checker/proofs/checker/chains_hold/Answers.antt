@@ -13,7 +13,7 @@ loop-place-preserved g c =
     let order = c.args.places.now.order.items in
     let m = c.loop-place.place in
     let inv = c.loop-place.invariant in
-    let a = machine_of (g.E.Array.child arr) (g.E.Array.fail arr) (g.E.Array.first arr) c.args.outputs.now in
+    let a = machine_of (g.E.Array.sees arr) c.args.outputs.now in
     let lt : m < length order = omega (arith, c.loop-place-test.true, c.len.ensures) in
     let at : c.index-element.result.now ≡ get_or order m 0 = get_or_read order m c.index-element.result.now lt c.index-element.ensures 0 in
     let here : IsChained a (get_or c.args.leaves.now m false) (get_or c.args.sizes.now m 0) (get_or order m 0) = rw at at (c.if-not-chain_holds.ensures.yes refl) in
@@ -70,7 +70,7 @@ pub chain_holds-requires : goal.chain_holds-requires
 chain_holds-requires g c =
     let lt : c.loop-place.place < length c.args.places.now.order.items = omega (arith, c.loop-place-test.true, c.len.ensures, c.args.places.now.order.ok.0) in
     let at = get_or_read c.args.places.now.order.items c.loop-place.place c.index-element.result.now lt c.index-element.ensures 0 in
-    let element : c.index-element.result.now < g.E.Array.count c.args.array.now = omega (arith, at, c.requires.places.places.inside c.loop-place.place lt, c.requires.places.marks_each) in
+    let element : c.index-element.result.now < (g.E.Array.sees c.args.array.now).count = omega (arith, at, c.requires.places.places.inside c.loop-place.place lt, c.requires.places.marks_each) in
     assumption (element, c.requires)
 
 pub returns-then-not-chain_holds-clause-no : goal.returns-then-not-chain_holds-clause-no
@@ -78,7 +78,7 @@ returns-then-not-chain_holds-clause-no g c e chained =
     let arr = c.args.array.now in
     let order = c.args.places.now.order.items in
     let m = c.loop-place.place in
-    let a = machine_of (g.E.Array.child arr) (g.E.Array.fail arr) (g.E.Array.first arr) c.args.outputs.now in
+    let a = machine_of (g.E.Array.sees arr) c.args.outputs.now in
     let lt : m < length order = omega (arith, c.loop-place-test.true, c.len.ensures, c.args.places.now.order.ok.0) in
     let at = get_or_read order m c.index-element.result.now lt c.index-element.ensures 0 in
     c.if-not-chain_holds.ensures.no refl

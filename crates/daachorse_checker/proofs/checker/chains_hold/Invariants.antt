@@ -6,7 +6,7 @@ use Rattle.daachorse_checker.proofs.checker.chains_hold.Given as goal
 abbrev pub invariant-loop-place : goal.invariant-loop-place
 invariant-loop-place g l = record {
   low : 0 < l.place;
-  each : (k : ℕ) → 0 < k → k < l.place → IsChained (machine_of (g.E.Array.child l.array) (g.E.Array.fail l.array) (g.E.Array.first l.array) l.outputs) (get_or l.leaves k false) (get_or l.sizes k 0) (get_or l.places.order.items k 0);
+  each : (k : ℕ) → 0 < k → k < l.place → IsChained (machine_of (g.E.Array.sees l.array) l.outputs) (get_or l.leaves k false) (get_or l.sizes k 0) (get_or l.places.order.items k 0);
 }
 
 abbrev pub decreases-loop-place : goal.decreases-loop-place

@@ -13,18 +13,18 @@ use Rattle.daachorse_checker.proofs.checker.is_right.Goals as goal
 pub returns-then-len-num_states-clause-no : goal.returns-then-len-num_states-clause-no
 returns-then-len-num_states-clause-no g c e right counted =
     let arr = c.args.array.now in
-    let a = machine_of (g.E.Array.child arr) (g.E.Array.fail arr) (g.E.Array.first arr) c.args.outputs.now in
+    let a = machine_of (g.E.Array.sees arr) c.args.outputs.now in
     let both = rw c.in-Some.is at c.in_ok-places.ensures.yes in
-    c.if-len-num_states.true (omega (arith, c.len.ensures, same_count (g.E.Array.width arr) a c.requires.tell both.1 both.0 c.args.num_states counted))
+    c.if-len-num_states.true (omega (arith, c.len.ensures, same_count (g.E.Array.sees arr).width a c.requires.edges.tell both.1 both.0 c.args.num_states counted))
 
 pub returns-then-not-chains_hold-clause-no : goal.returns-then-not-chains_hold-clause-no
 returns-then-not-chains_hold-clause-no g c e right counted =
     let arr = c.args.array.now in
     let parents = c.in-Some.places.parents.items in
-    let a = machine_of (g.E.Array.child arr) (g.E.Array.fail arr) (g.E.Array.first arr) c.args.outputs.now in
+    let a = machine_of (g.E.Array.sees arr) c.args.outputs.now in
     let both = rw c.in-Some.is at c.in_ok-places.ensures.yes in
     let leafy : AreLeavesOf parents c.in_ok-leaves.leaves.items (length parents) = rw c.deref.ensures.value at c.in_ok-leaves.ensures.ok in
-    let chained = chained_from (g.E.Array.width arr) a c.requires.tell both.1 both.0 c.in_ok-sizes.sizes.items
+    let chained = chained_from (g.E.Array.sees arr).width a c.requires.edges.tell both.1 both.0 c.in_ok-sizes.sizes.items
     c.in_ok-sizes.ensures.ok c.in_ok-sizes.ensures.each leafy c.args.leftmost right in
     c.if-not-chains_hold.ensures.no refl (rw (c.deref-3.ensures.value, c.deref-4.ensures.value) chained)
 
@@ -32,15 +32,15 @@ pub returns-clause-yes : goal.returns-clause-yes
 returns-clause-yes g c e =
     let arr = c.args.array.now in
     let p = c.in-Some.places in
-    let a = machine_of (g.E.Array.child arr) (g.E.Array.fail arr) (g.E.Array.first arr) c.args.outputs.now in
+    let a = machine_of (g.E.Array.sees arr) c.args.outputs.now in
     let both = rw c.in-Some.is at c.in_ok-places.ensures.yes in
     let leafy : AreLeavesOf p.parents.items c.in_ok-leaves.leaves.items (length p.parents.items) = rw c.deref.ensures.value at c.in_ok-leaves.ensures.ok in
     let chained = rw (c.deref-3.ensures.value, c.deref-4.ensures.value) at (c.if-not-chains_hold.ensures.yes refl) in
     let sized = c.in_ok-sizes.ensures in
     let len : length p.order.items ≡ c.args.num_states = omega (arith, c.len.ensures, c.if-len-num_states.false) in (
-      right_from (g.E.Array.width arr) a c.requires.tell both.1 both.0 c.in_ok-sizes.sizes.items sized.ok sized.each leafy
+      right_from (g.E.Array.sees arr).width a c.requires.edges.tell both.1 both.0 c.in_ok-sizes.sizes.items sized.ok sized.each leafy
           c.args.leftmost chained (c.in_ok-right.ensures.yes e),
-      subst (λ k. IsCounted a k) len (counted_places (g.E.Array.width arr) a c.requires.tell both.1 both.0),
+      subst (λ k. IsCounted a k) len (counted_places (g.E.Array.sees arr).width a c.requires.edges.tell both.1 both.0),
     )
 
 pub new-requires : goal.new-requires
@@ -52,8 +52,8 @@ returns-in_default-clause-yes g c e = absurd (false≢true e)
 pub returns-in_default-clause-no : goal.returns-in_default-clause-no
 returns-in_default-clause-no g c e right counted =
     let arr = c.args.array.now in
-    let a = machine_of (g.E.Array.child arr) (g.E.Array.fail arr) (g.E.Array.first arr) c.args.outputs.now in
-    (rw c.in_default.is at c.in_ok-places.ensures.no) (path_of (g.E.Array.width arr) a c.args.leftmost right)
+    let a = machine_of (g.E.Array.sees arr) c.args.outputs.now in
+    (rw c.in_default.is at c.in_ok-places.ensures.no) (path_of (g.E.Array.sees arr).width a c.args.leftmost right)
 
 pub returns-then-len-num_states-clause-yes : goal.returns-then-len-num_states-clause-yes
 returns-then-len-num_states-clause-yes g c e = absurd (false≢true e)
@@ -91,7 +91,7 @@ pub links_hold-requires : goal.links_hold-requires
 links_hold-requires g c = assumption (
   c.requires,
   rw c.in-Some.is at c.in_ok-places.ensures.yes,
-  subst (AreSizes (g.E.Array.child c.args.array.now) (g.E.Array.width c.args.array.now) c.in-Some.places.order.items) (sym c.deref-5.ensures.value) c.in_ok-sizes.ensures.ok,
+  subst (AreSizes (g.E.Array.sees c.args.array.now).child (g.E.Array.sees c.args.array.now).width c.in-Some.places.order.items) (sym c.deref-5.ensures.value) c.in_ok-sizes.ensures.ok,
   ap length c.deref-5.ensures.value ∙ c.in_ok-sizes.ensures.each,
 )
 

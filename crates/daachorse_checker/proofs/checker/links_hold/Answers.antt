@@ -14,17 +14,17 @@ pub returns-in_default-clause-no : goal.returns-in_default-clause-no
 returns-in_default-clause-no g c e links =
     let arr = c.args.array.now in
     let p = c.args.places in
-    let a = machine_of (g.E.Array.child arr) (g.E.Array.fail arr) (g.E.Array.first arr) c.args.outputs.now in
-    let bad : LeadsToNoPlace c.args.leftmost (g.E.Array.fail arr) p.order.items = search rules in
-    no_place (g.E.Array.width arr) a c.requires.tell c.requires.places (λ i u j h. (c.requires.inside i u j h).1) c.args.leftmost bad links
+    let a = machine_of (g.E.Array.sees arr) c.args.outputs.now in
+    let bad : LeadsToNoPlace c.args.leftmost (g.E.Array.sees arr).fail p.order.items = search rules in
+    no_place (g.E.Array.sees arr).width a c.requires.edges.tell c.requires.places (λ i u j h. (c.requires.edges.inside i u j h).1) c.args.leftmost bad links
 
 pub has_links-requires-clause-trie : goal.has_links-requires-clause-trie
 has_links-requires-clause-trie g c =
     let arr = c.args.array.now in
     let p = c.args.places in
-    let a = machine_of (g.E.Array.child arr) (g.E.Array.fail arr) (g.E.Array.first arr) c.args.outputs.now in
+    let a = machine_of (g.E.Array.sees arr) c.args.outputs.now in
     subst (λ u. IsTrieOfPlaces p.parents.items p.labels.items u) (sym c.num_units.ensures.bound)
-    (trie_of_places (g.E.Array.width arr) a c.requires.tell c.requires.places (λ i u j h. (c.requires.inside i u j h).1))
+    (trie_of_places (g.E.Array.sees arr).width a c.requires.edges.tell c.requires.places (λ i u j h. (c.requires.edges.inside i u j h).1))
 
 pub has_links-requires-clause-few : goal.has_links-requires-clause-few
 has_links-requires-clause-few g c = omega (arith, few c.requires.places.places, c.requires.places.marks_each, c.requires.places.places.one_each, c.requires.few)
@@ -33,21 +33,21 @@ pub returns-clause-yes : goal.returns-clause-yes
 returns-clause-yes g c e =
     let arr = c.args.array.now in
     let p = c.args.places in
-    let a = machine_of (g.E.Array.child arr) (g.E.Array.fail arr) (g.E.Array.first arr) c.args.outputs.now in
+    let a = machine_of (g.E.Array.sees arr) c.args.outputs.now in
     let fails = c.in-Some.fails.items in
     let each : length fails ≡ length p.order.items = search rules in
-    let linked : AreLinkPlaces (g.E.Array.fail arr) p.order.items fails = search rules in
-    links_are_right (g.E.Array.width arr) a c.requires.tell c.requires.places (λ i u j h. (c.requires.inside i u j h).1) c.args.leftmost
+    let linked : AreLinkPlaces (g.E.Array.sees arr).fail p.order.items fails = search rules in
+    links_are_right (g.E.Array.sees arr).width a c.requires.edges.tell c.requires.places (λ i u j h. (c.requires.edges.inside i u j h).1) c.args.leftmost
     c.args.sizes.now c.requires.sized c.requires.sizes c.in_ok-stops.stops.items c.in_ok-stops.ensures.ok c.in_ok-stops.ensures.each fails each linked (c.in_ok-right.ensures.yes e)
 
 pub returns-clause-no : goal.returns-clause-no
 returns-clause-no g c e links =
     let arr = c.args.array.now in
     let p = c.args.places in
-    let a = machine_of (g.E.Array.child arr) (g.E.Array.fail arr) (g.E.Array.first arr) c.args.outputs.now in
+    let a = machine_of (g.E.Array.sees arr) c.args.outputs.now in
     let fails = c.in-Some.fails.items in
     let each : length fails ≡ length p.order.items = search rules in
-    let linked : AreLinkPlaces (g.E.Array.fail arr) p.order.items fails = search rules in
+    let linked : AreLinkPlaces (g.E.Array.sees arr).fail p.order.items fails = search rules in
     c.in_ok-right.ensures.no e
-    (right_links_are (g.E.Array.width arr) a c.requires.tell c.requires.places (λ i u j h. (c.requires.inside i u j h).1) c.args.leftmost
+    (right_links_are (g.E.Array.sees arr).width a c.requires.edges.tell c.requires.places (λ i u j h. (c.requires.edges.inside i u j h).1) c.args.leftmost
     c.args.sizes.now c.requires.sized c.requires.sizes c.in_ok-stops.stops.items c.in_ok-stops.ensures.ok c.in_ok-stops.ensures.each fails each linked c.requires.tree links)

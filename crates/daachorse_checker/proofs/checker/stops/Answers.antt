@@ -18,13 +18,13 @@ loop-place-preserved g c =
     let m = c.loop-place.place in
     let stops = c.loop-place.stops.items in
     let stop = c.has_own-own.result in
-    let a = machine_of (g.E.Array.child arr) (g.E.Array.fail arr) (g.E.Array.first arr) c.args.outputs.now in
+    let a = machine_of (g.E.Array.sees arr) c.args.outputs.now in
     let lt : m < length order = omega (arith, c.loop-place-test.true, c.len-in-loop-place.ensures) in
     let element : c.index-element.result.now ≡ get_or order m 0 = get_or_read order m c.index-element.result.now lt c.index-element.ensures 0 in
-    let first : c.first-first.result ≡ g.E.Array.first arr (get_or order m 0) = c.first-first.ensures ∙ ap (g.E.Array.first arr) element in
-    let own : c.has_own-own.result ≡ has_values (own_from c.args.outputs.now (g.E.Array.first arr (get_or order m 0)) (get_or sizes m 0) (g.E.Array.first arr (get_or order m 0))).0 =
+    let first : c.first-first.result ≡ (g.E.Array.sees arr).first (get_or order m 0) = c.first-first.ensures ∙ ap (g.E.Array.sees arr).first element in
+    let own : c.has_own-own.result ≡ has_values (own_from c.args.outputs.now ((g.E.Array.sees arr).first (get_or order m 0)) (get_or sizes m 0) ((g.E.Array.sees arr).first (get_or order m 0))).0 =
     c.has_own-own.ensures ∙ ap (λ p. has_values (own_from c.args.outputs.now p (get_or sizes m 0) p).0) first in
-    let stop_if : Bool → Bool = λ b. cond b (has_values (own_from c.args.outputs.now (g.E.Array.first arr (get_or order m 0)) (get_or sizes m 0) (g.E.Array.first arr (get_or order m 0))).0) false in
+    let stop_if : Bool → Bool = λ b. cond b (has_values (own_from c.args.outputs.now ((g.E.Array.sees arr).first (get_or order m 0)) (get_or sizes m 0) ((g.E.Array.sees arr).first (get_or order m 0))).0) false in
     let is : stop ≡ stop_if c.args.leftmost = let on : stop_if true ≡ stop_if c.args.leftmost = ap stop_if (sym c.if-not-leftmost.false) in own ∙ on in
     let items : c.push.new.self.items ≡ stops ++ stop ∷ [] = c.in_ok-push.ensures.items in
     record {

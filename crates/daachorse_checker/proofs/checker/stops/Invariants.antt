@@ -7,7 +7,7 @@ abbrev pub invariant-loop-place : goal.invariant-loop-place
 invariant-loop-place g l = record {
   within : l.place ≤ length l.places.order.items;
   each : length l.stops.items ≡ l.place;
-  are : AreStopsAt (machine_of (g.E.Array.child l.array) (g.E.Array.fail l.array) (g.E.Array.first l.array) l.outputs) l.leftmost l.places.order.items l.sizes l.stops.items;
+  are : AreStopsAt (machine_of (g.E.Array.sees l.array) l.outputs) l.leftmost l.places.order.items l.sizes l.stops.items;
 }
 
 abbrev pub decreases-loop-place : goal.decreases-loop-place

@@ -7,7 +7,7 @@ use Rattle.daachorse_checker.proofs.filters.next_level.Given as goal
 abbrev pub invariant-loop-number : goal.invariant-loop-number
 invariant-loop-number g l = record {
   within : l.number ≤ length l.level;
-  is : IsNextOf (g.E.Array.child l.array) g.E.Array.bytes l.filter (has_own (g.E.Array.fail l.array) (g.E.Array.first l.array)) l.level l.number l.next.items;
+  is : IsNextOf (g.E.Array.sees l.array).child (g.E.Array.sees l.array).bytes l.filter (has_own (g.E.Array.sees l.array).fail (g.E.Array.sees l.array).first) l.level l.number l.next.items;
 }
 
 abbrev pub decreases-loop-number : goal.decreases-loop-number

@@ -15,19 +15,19 @@ returns-then-is_empty-clause-yes g c e =
 
 pub next_level-requires-clause-elements : goal.next_level-requires-clause-elements
 next_level-requires-clause-elements g c =
-    subst (λ (xs : List (ℕ × Window)). All (λ e. e.0 < g.E.Array.count c.args.array.now) xs) (sym c.deref.ensures.value)
-    (level_inside c.requires.tree c.loop-depth.invariant (g.E.Array.count c.args.array.now) (g.E.Array.units c.args.array.now) c.requires.some c.requires.inside)
+    subst (λ (xs : List (ℕ × Window)). All (λ e. e.0 < (g.E.Array.sees c.args.array.now).count) xs) (sym c.deref.ensures.value)
+    (level_inside c.requires.tree c.loop-depth.invariant (g.E.Array.sees c.args.array.now).count (g.E.Array.sees c.args.array.now).units c.requires.some c.requires.edges.inside)
 
 pub returns-in_default-clause-no : goal.returns-in_default-clause-no
 returns-in_default-clause-no g c e all =
     let a = c.args.array.now in
-    let refused : HasRefused c.args.filter.now (has_own (g.E.Array.fail a) (g.E.Array.first a)) c.loop-depth.level.items = search rules in
+    let refused : HasRefused c.args.filter.now (has_own (g.E.Array.sees a).fail (g.E.Array.sees a).first) c.loop-depth.level.items = search rules in
     level_refused c.requires.tree c.loop-depth.invariant refused all
 
 pub returns-clause-yes : goal.returns-clause-yes
 returns-clause-yes g c e =
     let a = c.args.array.now in
-    level_last c.requires.tree c.loop-depth.invariant (g.E.Array.count a) (g.E.Array.units a) c.requires.some c.requires.inside
+    level_last c.requires.tree c.loop-depth.invariant (g.E.Array.sees a).count (g.E.Array.sees a).units c.requires.some c.requires.edges.inside
     (omega (arith, c.loop-depth-test.false, c.num_elements-depth-end.ensures.all))
 
 pub loop-depth-init : goal.loop-depth-init
@@ -38,5 +38,5 @@ loop-depth-init g c =
 pub loop-depth-preserved : goal.loop-depth-preserved
 loop-depth-preserved g c =
     let a = c.args.array.now in
-    let of : IsNextOf (g.E.Array.child a) g.E.Array.bytes c.args.filter.now (has_own (g.E.Array.fail a) (g.E.Array.first a)) c.deref.result.now (length c.deref.result.now) c.in-Some.next.items = search rules in
+    let of : IsNextOf (g.E.Array.sees a).child (g.E.Array.sees c.args.array.now).bytes c.args.filter.now (has_own (g.E.Array.sees a).fail (g.E.Array.sees a).first) c.deref.result.now (length c.deref.result.now) c.in-Some.next.items = search rules in
     level_next c.requires.tree c.loop-depth.invariant c.in-Some.next.items (c.loop-depth._depth + 1) refl (rw c.deref.ensures.value at of)

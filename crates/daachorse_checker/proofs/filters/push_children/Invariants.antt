@@ -4,4 +4,4 @@ use Rattle.daachorse_checker.proofs.filters.push_children.Given as goal
 
 abbrev pub invariant-loop-member : goal.invariant-loop-member
 invariant-loop-member g l =
-    IsPushing (g.E.Array.child l.array) g.E.Array.bytes l.filter (g.E.Array.edge l.array) (g.E.Array.count l.array) l.group l.entry l.member-iterator l.fn.next.items l.next.items
+    IsPushing (g.E.Array.sees l.array).child (g.E.Array.sees l.array).bytes l.filter (g.E.Array.sees l.array).edge (g.E.Array.sees l.array).count l.group l.entry l.member-iterator l.fn.next.items l.next.items

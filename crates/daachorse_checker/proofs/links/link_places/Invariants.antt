@@ -8,7 +8,7 @@ invariant-loop-place g l = record {
   low : 0 < l.place;
   within : l.place ≤ length l.places.order.items;
   each : length l.fails.items ≡ l.place;
-  are : AreLinkPlaces (g.E.Array.fail l.array) l.places.order.items l.fails.items;
+  are : AreLinkPlaces (g.E.Array.sees l.array).fail l.places.order.items l.fails.items;
 }
 
 abbrev pub decreases-loop-place : goal.decreases-loop-place

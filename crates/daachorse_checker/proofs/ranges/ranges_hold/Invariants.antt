@@ -5,8 +5,8 @@ use Rattle.daachorse_checker.proofs.ranges.ranges_hold.Given as goal
 abbrev pub invariant-loop-element : goal.invariant-loop-element
 invariant-loop-element g l = record {
   within : l.element ≤ l.count;
-  links : (i : ℕ) → i < l.element → g.E.Array.fail l.array i < g.E.Array.count l.array;
-  positions : (i : ℕ) → i < l.element → g.E.Array.first l.array i ≤ l.num_outputs;
+  links : (i : ℕ) → i < l.element → (g.E.Array.sees l.array).fail i < (g.E.Array.sees l.array).count;
+  positions : (i : ℕ) → i < l.element → (g.E.Array.sees l.array).first i ≤ l.num_outputs;
 }
 
 abbrev pub decreases-loop-element : goal.decreases-loop-element

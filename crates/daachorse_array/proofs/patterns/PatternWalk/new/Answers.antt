@@ -11,8 +11,8 @@ invariant_of-result g c =
     let aside : c.push.new.self.items ≡ (0, 0) ∷ [] = c.in_ok-push.ensures.items ∙ ap (λ l. l ++ (0, 0) ∷ []) c.new-aside.ensures.items in
     record {
       patterns = c.requires;
-      groups_are = c.in_ok-groups.ensures.ok;
-      each = c.in_ok-groups.ensures.size;
+      groups_are = c.in_ok-groups.ensures.ok.are;
+      each = c.in_ok-groups.ensures.ok.each;
       walk = λ some. ([], rw aside (walk-start c.requires.tree));
       entries = rw aside (omega arith, (sym (ap length (root-text c.requires.tree)), refl), tt);
       inside = omega arith;
@@ -20,11 +20,11 @@ invariant_of-result g c =
 
 pub returns-clause-ok : goal.returns-clause-ok
 returns-clause-ok g c =
-    let child = g.E.Array.child c.args.elements in
-    let n = g.E.Array.count c.args.elements in
-    let m = g.E.Array.units c.args.elements in
+    let child = (g.E.Array.sees c.args.elements).child in
+    let n = (g.E.Array.sees c.args.elements).count in
+    let m = (g.E.Array.sees c.args.elements).units in
     let aside : c.push.new.self.items ≡ (0, 0) ∷ [] = c.in_ok-push.ensures.items ∙ ap (λ l. l ++ (0, 0) ∷ []) c.new-aside.ensures.items in (
       taken_from child n m n (0 ∷ []),
       walked c.requires.tree n [] (0 ∷ []) (walk-start c.requires.tree) (omega arith),
-      ap (λ l. patterns_of (text_of child m n) (g.E.Keys.outputs c.args.elements) (g.E.Array.first c.args.elements) (own_end (g.E.Array.fail c.args.elements) (g.E.Array.first c.args.elements)) (taken_from child n m n (elements_of l))) aside,
+      ap (λ l. patterns_of (text_of child m n) (g.E.Keys.outputs c.args.elements) (g.E.Array.sees c.args.elements).first (own_end (g.E.Array.sees c.args.elements).fail (g.E.Array.sees c.args.elements).first) (taken_from child n m n (elements_of l))) aside,
     )

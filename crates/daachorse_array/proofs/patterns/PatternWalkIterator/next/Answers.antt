@@ -11,7 +11,7 @@ pub returns-in_default-clause-steps : goal.returns-in_default-clause-steps
 returns-in_default-clause-steps g c =
     let s = c.loop-self.self-inside in
     let w = c.loop-self.invariant.walking in
-    let stop = own_end (g.E.Array.fail s.elements) (g.E.Array.first s.elements) in
+    let stop = own_end (g.E.Array.sees s.elements).fail (g.E.Array.sees s.elements).first in
     let text = map g.E.Keys.number s.text.items in
     let end : (s.position ≡ s.stop) ⊎ (s.position ≡ 0) = elim c.if-self.branch [ then-self v ↦ inl v.if-self.true | else-self+then-self-eq0 v ↦ inr v.if-self-eq0.true ] in
     let none : length s.aside.items ≡ 0 = omega (arith, c.in_default.ensures.cases.0, s.aside.ok) in
@@ -28,7 +28,12 @@ enter-entered-requires g c =
     let rest = c.pop.new.self.items in
     let d = c.in-Some.depth in
     let x = c.in-Some.next in
-    assumption (next-low w rest d x c.in-Some.ensures.items, next-inside w rest d x c.in-Some.ensures.items, w)
+    record {
+      edges = record { inside = w.patterns.tree.inside; tell = w.patterns.tell };
+      groups = record { are = w.groups_are; each = w.each };
+      element = next-inside w rest d x c.in-Some.ensures.items;
+      depth = next-low w rest d x c.in-Some.ensures.items;
+    }
 
 pub loop-self-smaller : goal.loop-self-smaller
 loop-self-smaller g c =
@@ -39,7 +44,7 @@ pub loop-self-preserved : goal.loop-self-preserved
 loop-self-preserved g c =
     let s = c.loop-self.self-inside in
     let w = c.loop-self.invariant.walking in
-    let stop = own_end (g.E.Array.fail s.elements) (g.E.Array.first s.elements) in
+    let stop = own_end (g.E.Array.sees s.elements).fail (g.E.Array.sees s.elements).first in
     let number = g.E.Keys.number in
     let end : (s.position ≡ s.stop) ⊎ (s.position ≡ 0) = elim c.if-self.branch [ then-self v ↦ inl v.if-self.true | else-self+then-self-eq0 v ↦ inr v.if-self-eq0.true ] in
     let d = c.in-Some.depth in
@@ -61,7 +66,7 @@ pub returns-in-Ok-clause-steps : goal.returns-in-Ok-clause-steps
 returns-in-Ok-clause-steps g c =
     let s = c.loop-self.self-inside in
     let w = c.loop-self.invariant.walking in
-    let stop = own_end (g.E.Array.fail s.elements) (g.E.Array.first s.elements) in
+    let stop = own_end (g.E.Array.sees s.elements).fail (g.E.Array.sees s.elements).first in
     let text = map g.E.Keys.number s.text.items in
     let position : c.map_or.result ≡ parent_of c.output-output.result = search rules in
     let key : g.E.Keys.units_of c.in-Ok.key ≡ text = c.in-Ok.ensures.ok ∙ ap (map g.E.Keys.number) c.deref.ensures.value in
@@ -90,7 +95,7 @@ pub returns-in-Err-key-clause-steps : goal.returns-in-Err-key-clause-steps
 returns-in-Err-key-clause-steps g c =
     let s = c.loop-self.self-inside in
     let w = c.loop-self.invariant.walking in
-    let stop = own_end (g.E.Array.fail s.elements) (g.E.Array.first s.elements) in
+    let stop = own_end (g.E.Array.sees s.elements).fail (g.E.Array.sees s.elements).first in
     let text = map g.E.Keys.number s.text.items in
     let given = sym c.loop-self.invariant.left
     ∙ left-of-value w.patterns text (elements_of s.aside.items) s.stop s.position c.output-output.result c.if-self.false c.if-self-eq0.false c.output-output.ensures in

@@ -7,16 +7,17 @@ use Rattle.daachorse_array.proofs.patterns.PatternWalkIterator.next.Given as goa
 abbrev pub invariant-loop-self : goal.invariant-loop-self
 invariant-loop-self g l =
     let s = l.self-inside in
-    let elements = s.elements in
+    let view = g.E.Array.sees s.elements in
+    let outputs = g.E.Keys.outputs s.elements in
     record {
-      walking : IsListingWalk (g.E.Array.child elements) (g.E.Array.group elements) (g.E.Array.edge elements) (g.E.Array.count elements) (g.E.Array.units elements) (g.E.Keys.outputs elements) (g.E.Array.first elements) (own_end (g.E.Array.fail elements) (g.E.Array.first elements))
+      walking : IsListingWalk view.child view.group view.edge view.count view.units outputs view.first (own_end view.fail view.first)
           s.groups s.aside.items (map g.E.Keys.number s.text.items) s.position;
-      left : left_of (g.E.Array.child elements) (g.E.Array.count elements) (g.E.Array.units elements) (g.E.Keys.outputs elements) (g.E.Array.first elements) (own_end (g.E.Array.fail elements) (g.E.Array.first elements))
+      left : left_of view.child view.count view.units outputs view.first (own_end view.fail view.first)
           (map g.E.Keys.number s.text.items) (elements_of s.aside.items) s.stop s.position ≡ l.fn.self;
     }
 
 abbrev pub decreases-loop-self : goal.decreases-loop-self
 decreases-loop-self g l =
     let s = l.self-inside in
-    let count = g.E.Array.count s.elements in
-    length (taken_from (g.E.Array.child s.elements) count (g.E.Array.units s.elements) count (elements_of s.aside.items))
+    let view = g.E.Array.sees s.elements in
+    length (taken_from view.child view.count view.units view.count (elements_of s.aside.items))

@@ -6,6 +6,6 @@ use Rattle.daachorse_array.proofs.siblings.Siblings.new.Given as goal
 
 abbrev pub invariant-loop-element : goal.invariant-loop-element
 invariant-loop-element g l = record {
-  grouped : IsGrouped (g.E.Array.edge l.edges) (g.E.Array.count l.edges) l.element l.first.items l.next.items;
-  room : g.E.Array.count l.edges ≤ vec_capacity l.next;
+  grouped : IsGrouped (g.E.Array.sees l.edges).edge (g.E.Array.sees l.edges).count l.element l.first.items l.next.items;
+  room : (g.E.Array.sees l.edges).count ≤ vec_capacity l.next;
 }

@@ -4,13 +4,14 @@ use Rattle.daachorse_model.specs.Kinds.{is_leftmost}
 use Rattle.daachorse_checker.proofs.SoundLaws.{sound_told, told_sound}
 use Rattle.daachorse_bytewise_states.specs.Grouped.{IsGrouped}
 use Rattle.daachorse_bytewise_states.specs.Parts.{Parts, machine}
+use Rattle.daachorse_bytewise_states.proofs.ByteLaws.{child_inside}
 use Rattle.daachorse_bytewise_states.proofs.EdgeLaws.{bases_tell}
 use Rattle.daachorse_bytewise_states.proofs.edges.Elements.are_valid.Goals as goal
 
-pub is_sound-requires-clause-tell : goal.is_sound-requires-clause-tell
-is_sound-requires-clause-tell g c =
+pub is_sound-requires-clause-edges : goal.is_sound-requires-clause-edges
+is_sound-requires-clause-edges g c =
     let grouped : IsGrouped c.args.self.now = rw (← c.self.view_is) c.self.invariant.0 in
-    bases_tell c.args.self.now grouped.bases
+    record { inside = child_inside c.args.self.now; tell = bases_tell c.args.self.now grouped.bases }
 
 pub returns-clause-yes : goal.returns-clause-yes
 returns-clause-yes g c e =

@@ -5,12 +5,14 @@ use Rattle.daachorse_model.specs.Units.{byte_width}
 use Rattle.daachorse_checker.specs.Folded.{HasFoldedKeys}
 use Rattle.daachorse_checker.proofs.FoldedKeys.{keys-from-units, units-from-keys}
 use Rattle.daachorse_bytewise_states.specs.Parts.{Parts, content, count, machine}
-use Rattle.daachorse_bytewise_states.proofs.ByteLaws.{valid_machine}
+use Rattle.daachorse_bytewise_states.proofs.ByteLaws.{child_inside, valid_machine}
 use Rattle.daachorse_bytewise_states.proofs.EdgeLaws.{valid_tells}
 use Rattle.daachorse_bytewise_states.proofs.states.States.may_fold.Goals as goal
 
-pub is_folded-requires-clause-tell : goal.is_folded-requires-clause-tell
-is_folded-requires-clause-tell g c = valid_tells c.elements-elements.result c.elements-elements.ensures.valid
+pub is_folded-requires-clause-edges : goal.is_folded-requires-clause-edges
+is_folded-requires-clause-edges g c =
+    let p = c.elements-elements.result in
+    record { inside = child_inside p; tell = valid_tells p c.elements-elements.ensures.valid }
 
 pub returns-clause-yes : goal.returns-clause-yes
 returns-clause-yes g c e folds =

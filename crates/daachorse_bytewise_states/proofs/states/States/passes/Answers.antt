@@ -6,7 +6,7 @@ use Rattle.daachorse_model.specs.Units.{byte_width}
 use Rattle.daachorse_checker.proofs.KeyLaws.{all_from_each, each_from_all}
 use Rattle.daachorse_prefilter.specs.Filters.{PassesKeys}
 use Rattle.daachorse_bytewise_states.specs.Parts.{Parts, content, count, machine}
-use Rattle.daachorse_bytewise_states.proofs.ByteLaws.{valid_machine}
+use Rattle.daachorse_bytewise_states.proofs.ByteLaws.{child_inside, valid_machine}
 use Rattle.daachorse_bytewise_states.proofs.EdgeLaws.{valid_tells}
 use Rattle.daachorse_bytewise_states.proofs.states.States.passes.Goals as goal
 
@@ -14,8 +14,10 @@ spells : (w : List ℕ) → flat_map (λ (byte : ℕ). byte ∷ []) w ≡ w
 spells [] = refl
 spells (byte ∷ w) = ap (λ v. byte ∷ v) (spells w)
 
-pub passes_all-requires-clause-tell : goal.passes_all-requires-clause-tell
-passes_all-requires-clause-tell g c = valid_tells c.elements-elements.result c.elements-elements.ensures.valid
+pub passes_all-requires-clause-edges : goal.passes_all-requires-clause-edges
+passes_all-requires-clause-edges g c =
+    let p = c.elements-elements.result in
+    record { inside = child_inside p; tell = valid_tells p c.elements-elements.ensures.valid }
 
 pub returns-clause-yes : goal.returns-clause-yes
 returns-clause-yes g c e =

@@ -8,13 +8,10 @@ use Rattle.daachorse_charwise_states.proofs.CharLaws.{child_inside}
 use Rattle.daachorse_charwise_states.proofs.EdgeLaws.{valid_tells}
 use Rattle.daachorse_charwise_states.proofs.edges.Elements.are_valid.Goals as goal
 
-pub is_sound-requires-clause-inside : goal.is_sound-requires-clause-inside
-is_sound-requires-clause-inside g c = child_inside c.args.self.now.parts
-
-pub is_sound-requires-clause-tell : goal.is_sound-requires-clause-tell
-is_sound-requires-clause-tell g c =
+pub is_sound-requires-clause-edges : goal.is_sound-requires-clause-edges
+is_sound-requires-clause-edges g c =
     let lettered : IsLettered c.args.self.now = rw (← c.self.view_is) c.self.invariant in
-    valid_tells c.args.self.now lettered.letters
+    record { inside = child_inside c.args.self.now.parts; tell = valid_tells c.args.self.now lettered.letters }
 
 pub returns-clause-yes : goal.returns-clause-yes
 returns-clause-yes g c e =

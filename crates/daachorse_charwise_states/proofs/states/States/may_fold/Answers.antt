@@ -5,12 +5,14 @@ use Rattle.daachorse_model.specs.Units.{char_width}
 use Rattle.daachorse_checker.specs.Folded.{HasFoldedKeys}
 use Rattle.daachorse_checker.proofs.FoldedKeys.{keys-from-units, units-from-keys}
 use Rattle.daachorse_charwise_states.specs.Parts.{Parts, content, count, machine}
-use Rattle.daachorse_charwise_states.proofs.CharLaws.{valid_machine}
+use Rattle.daachorse_charwise_states.proofs.CharLaws.{child_inside, valid_machine}
 use Rattle.daachorse_charwise_states.proofs.EdgeLaws.{valid_tells}
 use Rattle.daachorse_charwise_states.proofs.states.States.may_fold.Goals as goal
 
-pub is_folded-requires-clause-tell : goal.is_folded-requires-clause-tell
-is_folded-requires-clause-tell g c = valid_tells c.in_ok-elements.elements c.in_ok-elements.ensures.lettered.letters
+pub is_folded-requires-clause-edges : goal.is_folded-requires-clause-edges
+is_folded-requires-clause-edges g c =
+    let a = c.in_ok-elements.elements in
+    record { inside = child_inside a.parts; tell = valid_tells a c.in_ok-elements.ensures.lettered.letters }
 
 pub returns-clause-yes : goal.returns-clause-yes
 returns-clause-yes g c e folds =

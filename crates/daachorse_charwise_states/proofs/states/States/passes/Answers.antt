@@ -7,7 +7,7 @@ use Rattle.daachorse_model.specs.Units.{char_width}
 use Rattle.daachorse_checker.proofs.KeyLaws.{all_from_each, each_from_all}
 use Rattle.daachorse_prefilter.specs.Filters.{PassesKeys}
 use Rattle.daachorse_charwise_states.specs.Parts.{Parts, content, count, machine}
-use Rattle.daachorse_charwise_states.proofs.CharLaws.{valid_machine}
+use Rattle.daachorse_charwise_states.proofs.CharLaws.{child_inside, valid_machine}
 use Rattle.daachorse_charwise_states.proofs.EdgeLaws.{valid_tells}
 use Rattle.daachorse_charwise_states.proofs.states.States.passes.Goals as goal
 
@@ -17,8 +17,10 @@ spells (character ∷ w) = ap (λ v. encode_utf8 character ++ v) (spells w)
 
 pub passes_all-requires : goal.passes_all-requires
 passes_all-requires g c = record {
-  inside = (valid_machine c.in_ok-elements.elements.parts c.in_ok-elements.ensures.valid).inside;
-  tell = valid_tells c.in_ok-elements.elements c.in_ok-elements.ensures.lettered.letters;
+  edges = record {
+    inside = child_inside c.in_ok-elements.elements.parts;
+    tell = valid_tells c.in_ok-elements.elements c.in_ok-elements.ensures.lettered.letters;
+  };
   some = (valid_machine c.in_ok-elements.elements.parts c.in_ok-elements.ensures.valid).some;
   tree = let right = c.in_ok-elements.ensures.valid.sound.right in record { dead_no_child = right.dead_no_child; one_path = right.one_path };
 }

@@ -5,10 +5,10 @@ use Rattle.daachorse_checker.proofs.places.Places.expand.Given as goal
 
 abbrev pub invariant-loop-member : goal.invariant-loop-member
 invariant-loop-member g l =
-    let child = g.E.Array.child l.array in
-    let group = g.E.Array.group l.array in
-    let edge = g.E.Array.edge l.array in
-    let count = g.E.Array.count l.array in
+    let child = (g.E.Array.sees l.array).child in
+    let group = (g.E.Array.sees l.array).group in
+    let edge = (g.E.Array.sees l.array).edge in
+    let count = (g.E.Array.sees l.array).count in
     record {
       left : IsLeft child edge count l.member-iterator l.self.order.items l.self.parents.items l.self.labels.items l.self.marks.items l.group l.place;
       group_of : group (get_or l.self.order.items l.place 0) ≡ Some l.group;

@@ -6,8 +6,8 @@ use Rattle.daachorse_checker.proofs.places.Places.new.Given as goal
 
 abbrev pub invariant-loop-next : goal.invariant-loop-next
 invariant-loop-next g l = record {
-  walk : IsPlaceWalk (g.E.Array.child l.array) (λ j. unit_of (g.E.Array.edge l.array j)) (g.E.Array.count l.array) l.places.order.items l.places.parents.items l.places.labels.items l.places.marks.items l.next;
+  walk : IsPlaceWalk (g.E.Array.sees l.array).child (λ j. unit_of ((g.E.Array.sees l.array).edge j)) (g.E.Array.sees l.array).count l.places.order.items l.places.parents.items l.places.labels.items l.places.marks.items l.next;
 }
 
 abbrev pub decreases-loop-next : goal.decreases-loop-next
-decreases-loop-next g l = g.E.Array.count l.array - l.next
+decreases-loop-next g l = (g.E.Array.sees l.array).count - l.next

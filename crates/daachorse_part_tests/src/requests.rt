@@ -2,9 +2,9 @@
 //! writer keeps what it had.
 
 use crate::expect;
+use daachorse_charwise_states::mapper::CodeMapper;
 use daachorse_core::MatchKind;
 use daachorse_core::errors::{DaachorseError, Result};
-use daachorse_charwise_states::mapper::CodeMapper;
 use daachorse_patterns::trie::build_trie;
 use daachorse_prefilter::prefilter::{Prefilter, PrefilterBuilder};
 use daachorse_serializer::serializer::SerializableVec;

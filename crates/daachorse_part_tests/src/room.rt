@@ -2,9 +2,9 @@
 //! for it are there.
 
 use crate::expect;
+use daachorse_charwise_states::mapper::CodeMapper;
 use daachorse_core::Output;
 use daachorse_core::errors::DaachorseError;
-use daachorse_charwise_states::mapper::CodeMapper;
 use daachorse_prefilter::prefilter::Prefilter;
 use daachorse_serializer::serializer::{SerializableVec, Table};
 use refusing::Refusing;

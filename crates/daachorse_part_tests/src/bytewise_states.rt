@@ -1,5 +1,4 @@
-//! What no clause says of the states over bytes: worked rows of the blocks that siblings share, and that
-//! steppers run over a view of them.
+//! States over bytes, where no contract speaks: blocks that siblings share, and steppers.
 
 ghost use Rattle.std.specs.Prelude.{◌≡◌, IfOk};
 ghost use Rattle.daachorse_model.specs.declared.MatchKind.TheVariants.{Standard};
@@ -15,7 +14,7 @@ use daachorse_search::overlapping_stepper::FindOverlappingStepper;
 use std::alloc::Global;
 use std::test::Fail;
 
-/// The states of these patterns and values, for the standard searches.
+/// The standard states of these patterns.
 fn built(alloc: Global, patvals: &[(&[u8], u32)]) -> Result<States<u32>>
     ensures { IfOk result (λ s. s.kind ≡ Standard) }
 {
@@ -23,10 +22,10 @@ fn built(alloc: Global, patvals: &[(&[u8], u32)]) -> Result<States<u32>>
     States::build(alloc, MatchKind::Standard, nfa, &Profile::new(alloc))
 }
 
-/// A beginning, and the first and the last of the bytes that follow it.
+/// A prefix, and the first and the last of the bytes that follow it.
 type Group<'a> = (&'a [u8], u8, u8);
 
-/// A group of patterns for each row, the numbers of elements and of states, and bases by element.
+/// Groups of patterns, the numbers of elements and states, and bases by element.
 type Layout<'a> = (&'a [Group<'a>], usize, u32, &'a [(u32, u32)]);
 
 const LAYOUTS: [Layout<'static>; 4] = [
@@ -56,7 +55,7 @@ const LAYOUTS: [Layout<'static>; 4] = [
     ),
 ];
 
-/// Appends a pattern for each byte of a group.
+/// Appends the patterns of a group.
 fn push_patterns(patterns: &mut Vec<Vec<u8>>, group: Group<'_>) -> Result<()> {
     let (beginning, first, last) = group;
     for byte in first..=last {
@@ -67,7 +66,7 @@ fn push_patterns(patterns: &mut Vec<Vec<u8>>, group: Group<'_>) -> Result<()> {
     Ok(())
 }
 
-/// The states of a pattern for each byte of these groups, each with the value 0.
+/// The states of these groups of patterns, each with the value 0.
 fn built_of(alloc: Global, groups: &[Group<'_>]) -> Result<States<u32>> {
     let mut patterns = Vec::new(alloc);
     for group in groups {
@@ -84,7 +83,7 @@ fn built_of(alloc: Global, groups: &[Group<'_>]) -> Result<States<u32>> {
 fn have_bases(alloc: Global, states: &States<u32>, bases: &[(u32, u32)]) -> Result<bool> {
     let bytes = states.serialize(alloc, false, &None)?;
     for (element, base) in bases {
-        // Behind the count each element takes 12 bytes, and begins with its base.
+        // After the count, each element takes 12 bytes and begins with its base.
         let place = 4 + 12 * *element as usize;
         if place >= bytes.len() || !bytes[place..].starts_with(&base.to_le_bytes()) {
             return Ok(false);
@@ -104,7 +103,7 @@ fn siblings_share_blocks(rt: HostRuntime) -> Result<(), Fail> {
     Ok(())
 }
 
-/// What the stepper for matches that do not overlap tells behind a byte.
+/// What the stepper without overlaps reports after a byte.
 fn told(states: &States<u32>, byte: u8) -> Option<Match<u32>>
     requires { states.now.kind ≡ Standard }
 {
@@ -113,7 +112,7 @@ fn told(states: &States<u32>, byte: u8) -> Option<Match<u32>>
     stepper.matches()
 }
 
-/// The first that the stepper for all matches tells behind a byte.
+/// The first match that the overlapping stepper reports after a byte.
 fn told_first(states: &States<u32>, byte: u8) -> Option<Match<u32>>
     requires { states.now.kind ≡ Standard }
 {

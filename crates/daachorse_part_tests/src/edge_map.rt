@@ -1,4 +1,4 @@
-//! Edges by labels: one edge takes no memory, and each growth is refused in turn.
+//! Edge maps: one edge takes no memory, and each growth is refused in turn.
 
 use crate::expect;
 use daachorse_build::edge_map::EdgeMap;
@@ -6,7 +6,7 @@ use refusing::{Answer, Call, Refusing, each_request};
 use std::alloc::Global;
 use std::test::Fail;
 
-/// Edges whose memory may be refused.
+/// An edge map whose allocations may be refused.
 type Edges<'a> = EdgeMap<u8, &'a Refusing<Global>>;
 
 #[test]
@@ -23,10 +23,10 @@ fn one_edge_takes_no_memory_and_stays(rt: HostRuntime) -> Result<(), Fail> {
     Ok(())
 }
 
-/// Labels, not in order. The edge of each has for an id the label's number.
+/// Labels, out of order. The edge of each has the label's number as its id.
 const LABELS: &[u8] = b"tresnflougmj";
 
-/// Whether these are the edges of the labels but for one.
+/// Whether the map has the edges of all labels but the refused one.
 fn lists(map: &Edges<'_>, refused: Option<u8>) -> bool {
     for label in LABELS {
         let id = u32::from(*label);
@@ -38,7 +38,7 @@ fn lists(map: &Edges<'_>, refused: Option<u8>) -> bool {
     true
 }
 
-/// Inserts the labels in turn. The last that is refused is given.
+/// Inserts the labels in turn, and returns the last one that was refused.
 fn insert_all<'a>(map: &mut Edges<'a>, heap: &'a Refusing<Global>) -> Option<u8> {
     let mut refused = None;
     for label in LABELS {
@@ -49,7 +49,7 @@ fn insert_all<'a>(map: &mut Edges<'a>, heap: &'a Refusing<Global>) -> Option<u8>
     refused
 }
 
-/// The edges of the labels, each inserted in turn, and a copy of them.
+/// Inserts the labels in turn, and clones the map.
 struct Inserts;
 
 impl Call for Inserts {

@@ -1,4 +1,4 @@
-//! The elements of both double arrays: that each part is kept, and the bytes that they are written as.
+//! The elements of both double arrays: their parts, and their written forms.
 
 use crate::expect;
 use crate::forms::has_form;
@@ -9,7 +9,7 @@ use daachorse_core::errors::Result;
 use std::num::NonZeroU32;
 use std::test::Fail;
 
-/// An element over bytes of these parts; a base or a position of 0 stands for none.
+/// An element over bytes. A base or a position of 0 stands for none.
 fn element(base: u32, check: u8, fail: u32, position: u32) -> Result<State<u32>> {
     let mut element = State::default();
     if let Some(base) = NonZeroU32::new(base) {
@@ -40,7 +40,7 @@ fn an_element_of_bytes_keeps_its_parts(rt: HostRuntime) -> Result<(), Fail> {
     Ok(())
 }
 
-/// An element over characters of these parts; a base or a position of 0 stands for none.
+/// An element over characters. A base or a position of 0 stands for none.
 fn character_element(base: u32, check: u32, fail: u32, position: u32) -> CharacterState {
     let mut element = CharacterState::default();
     if let Some(base) = NonZeroU32::new(base) {

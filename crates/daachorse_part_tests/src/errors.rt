@@ -23,7 +23,7 @@ const AUTOMATON: &str = "InvalidAutomatonError: invalid serialized automaton";
 
 const MEMORY: &str = "OutOfMemoryError: memory allocation failed";
 
-/// The limits, and the texts of the errors that they make.
+/// The limits, and the texts of their errors.
 const LIMITS: [(Limit, &str); 5] = [
     (
         Limit::PatternValues,
@@ -65,7 +65,7 @@ fn each_error_has_its_text(rt: HostRuntime) -> Result<(), Fail> {
     Ok(())
 }
 
-/// Whether the parts of errors are printed as the errors.
+/// Whether the structs of errors are printed like the errors.
 fn print_alike(alloc: Global) -> Result<bool, AllocError> {
     let (limit, text) = LIMITS[4];
     Ok(

@@ -1,4 +1,4 @@
-//! That the written form of a value is exactly these bytes.
+//! Assertions that a value is written as exactly these bytes.
 
 use crate::expect;
 use daachorse_core::errors::DaachorseError;
@@ -7,7 +7,7 @@ use std::alloc::Global;
 use std::process::Abort;
 use std::test::Fail;
 
-/// Whether these bytes are refused for what they are.
+/// Whether these bytes are refused as no such value.
 pub fn lacks_bytes<S: Serializable>(bytes: &[u8]) -> bool {
     match S::deserialize_from_slice(bytes) {
         Ok(_) => false,
@@ -15,8 +15,8 @@ pub fn lacks_bytes<S: Serializable>(bytes: &[u8]) -> bool {
     }
 }
 
-/// Asserts that a value is written as `form`, that it is read again, whatever follows it, and that
-/// each beginning that lacks a byte is refused as no such value.
+/// Asserts that a value is written as `form` and read back from it, whatever follows, and that each
+/// prefix that lacks a byte is refused.
 pub fn has_form<S: Serializable + PartialEq>(
     rt: &impl Abort,
     alloc: Global,
@@ -42,7 +42,7 @@ pub fn has_form<S: Serializable + PartialEq>(
     Ok(())
 }
 
-/// Whether these bytes are refused for what they are.
+/// Whether these bytes are refused as no such value, for one that allocates.
 pub fn is_refused<S: SerializableVec<Alloc = Global> + Drop>(alloc: Global, bytes: &[u8]) -> bool {
     match S::deserialize_from_slice(alloc, bytes) {
         Ok(_) => false,
@@ -50,7 +50,7 @@ pub fn is_refused<S: SerializableVec<Alloc = Global> + Drop>(alloc: Global, byte
     }
 }
 
-/// Does what [`has_form`] does, for a value with memory of its own.
+/// Does what [`has_form`] does, for a value that allocates.
 pub fn has_list_form<S: SerializableVec<Alloc = Global> + PartialEq + Drop>(
     rt: &impl Abort,
     alloc: Global,

@@ -1,6 +1,6 @@
-//! Tests of single crates below the automata, from outside: worked rows, printed texts and written
-//! forms. They stand apart from the crates that they test, since a crate with tests of its own is
-//! proved twice.
+//! Tests of single crates below the automata: worked rows, printed texts and written forms.
+//!
+//! They have a crate of their own, since a crate with tests is proved twice.
 #![tactic(auto)]
 
 #[cfg(test)]
@@ -39,7 +39,7 @@ mod trie;
 #[cfg(test)]
 use std::process::Abort;
 
-/// Ends the test with what went wrong, unless `holds`. A call is proved faster than an assertion.
+/// Aborts with `what` unless `holds`. A call is proved faster than an assertion.
 #[cfg(test)]
 fn expect(rt: &impl Abort, holds: bool, what: &str) {
     assert!(rt; holds, "{what}");

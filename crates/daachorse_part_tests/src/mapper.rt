@@ -1,11 +1,11 @@
-//! What no clause says of a mapper: that each call succeeds where memory is ample, and a worked row.
+//! The code mapper, where no contract speaks: a worked row, and calls with ample memory.
 
 use crate::expect;
 use crate::forms::has_list_form;
 use daachorse_charwise_states::mapper::{CodeMapper, INVALID_CODE, code_in};
 use std::test::Fail;
 
-/// The codes of the characters of these frequencies.
+/// Characters and their codes, for the frequencies 3, 6, 0, 2, 3, 0 and 3 from U+0000 on.
 const CODES: [(char, Option<u32>); 8] = [
     ('\u{0}', Some(1)),
     ('\u{1}', Some(0)),

@@ -1,4 +1,4 @@
-//! Outputs, labels of edges, kinds and counts: that each call gives what a reader expects, and the laws at a type.
+//! Outputs, edge labels, match kinds and counts: what their calls return, and each law at one type.
 
 use crate::expect;
 use daachorse_core::ascii_fold::AsciiFold;
@@ -24,7 +24,7 @@ fn an_output_keeps_its_parts_and_is_a_match(rt: HostRuntime) {
     expect(&rt, usize::from_u32(u32::MAX) == 4294967295, "a number");
 }
 
-/// Characters of each length, with their lengths and numbers.
+/// Characters of one to four bytes, with their lengths and numbers.
 const CHARACTERS: [(char, usize, u32); 4] = [
     ('a', 1, 97),
     ('é', 2, 233),
@@ -56,7 +56,7 @@ fn letters_of_ascii_alone_are_folded(rt: HostRuntime) {
     }
 }
 
-/// Kinds by their bytes, and whether they are leftmost, and for the first that was registered.
+/// Bytes, their kinds, whether these are leftmost, and whether they are leftmost-first.
 const KINDS: [(u8, MatchKind, bool, bool); 3] = [
     (0, MatchKind::Standard, false, false),
     (1, MatchKind::LeftmostLongest, true, false),

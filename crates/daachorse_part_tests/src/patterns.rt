@@ -1,4 +1,4 @@
-//! The trie of patterns where there may be few of them.
+//! The limit on the number of patterns in a trie.
 
 use crate::expect;
 use daachorse_core::MatchKind;
@@ -7,7 +7,7 @@ use daachorse_patterns::trie::build_trie;
 use std::alloc::Global;
 use std::test::Fail;
 
-/// The kinds, the limits, and whether the patterns a, ab and abc pass them.
+/// A kind, a limit, and whether the patterns a, ab and abc exceed it.
 const LIMITS: [(MatchKind, u8, bool); 5] = [
     (MatchKind::Standard, 3, false),
     (MatchKind::Standard, 2, true),
@@ -16,7 +16,7 @@ const LIMITS: [(MatchKind, u8, bool); 5] = [
     (MatchKind::LeftmostFirst, 0, true),
 ];
 
-/// Whether a limit is passed.
+/// Whether the patterns a, ab and abc exceed a limit.
 fn is_passed(alloc: Global, kind: MatchKind, max: u8) -> Result<bool> {
     let patterns: [(&[u8], u32); 3] = [(b"a", 0), (b"ab", 1), (b"abc", 2)];
     match build_trie(alloc, kind, Some(usize::from(max)), &patterns) {

@@ -1,4 +1,4 @@
-//! Tests of the places that groups get, of which no contract speaks.
+//! The places that sibling groups get, which no contract fixes.
 
 ghost use Rattle.std.specs.Prelude.{◌^◌, ◌≡◌, ◌<◌, ◌≤◌, IsTrue, IfOk, IfSome, length};
 ghost use Rattle.std.specs.Int.{IsPowerOfTwo};
@@ -11,7 +11,7 @@ use std::alloc::{AllocError, Global};
 use std::process::Abort;
 use std::test::Fail;
 
-/// One more than the last id, if the labels rise below `block_len` and the ids from `low` on.
+/// One more than the last id; `None` unless labels rise below `block_len` and ids from `low` on.
 fn rises(children: &[(u32, u32)], low: usize, block_len: u32) -> Option<usize>
     ensures { IfSome result (AreRising children.now (length children.now) block_len low) }
 {
@@ -27,7 +27,7 @@ fn rises(children: &[(u32, u32)], low: usize, block_len: u32) -> Option<usize>
     Some(id_from)
 }
 
-/// Whether the parents, the labels and the ids rise, as far as the groups may be placed.
+/// Whether the parents, labels and ids of groups rise, as a placement requires.
 fn are_rising(groups: &[SiblingGroup], num_nfa_states: usize, block_len: u32) -> bool
     ensures { IsTrue result → AreGroups groups.now num_nfa_states block_len }
 {
@@ -61,8 +61,7 @@ fn children_of(
     Ok(children)
 }
 
-/// Groups with these weights and labels: the parent of each has its place in the table as id, and
-/// the children have the ids from 2 on.
+/// Groups with these weights and labels. Parents have ids from 0 on, and children from 2 on.
 fn groups_of(alloc: Global, rows: &[(usize, &[u32])]) -> Result<Vec<SiblingGroup>, AllocError> {
     let mut groups = Vec::new(alloc);
     let mut parent = 0u32;
@@ -90,7 +89,7 @@ fn block_len(rt: &impl Abort, bits: u32) -> u32
     len
 }
 
-/// Where the groups stand, among `num_nfa_states` states.
+/// Places the groups among `num_nfa_states` states.
 fn place(
     rt: &impl Abort,
     alloc: Global,
@@ -109,7 +108,7 @@ fn place(
     Ok(helper)
 }
 
-/// By block the least base that isn't taken.
+/// The least unused base of each block.
 fn unused_bases(
     alloc: Global,
     helper: &BuildHelper,
@@ -126,7 +125,7 @@ fn unused_bases(
     Ok(unused)
 }
 
-/// The elements or bases that are used, in rising order.
+/// The used elements, or the used bases, in rising order.
 fn used(alloc: Global, helper: &BuildHelper, of_bases: bool) -> Result<Vec<u32>, AllocError> {
     let mut used = Vec::new(alloc);
     for place in 0..helper.num_elements() {
@@ -142,7 +141,7 @@ fn used(alloc: Global, helper: &BuildHelper, of_bases: bool) -> Result<Vec<u32>,
     Ok(used)
 }
 
-/// The vacant elements that are listed.
+/// The vacant elements, as the helper lists them.
 fn vacant(alloc: Global, helper: &BuildHelper) -> Result<Vec<u32>, AllocError> {
     let mut vacant = Vec::new(alloc);
     for place in helper.vacant_iter() {
@@ -151,7 +150,7 @@ fn vacant(alloc: Global, helper: &BuildHelper) -> Result<Vec<u32>, AllocError> {
     Ok(vacant)
 }
 
-/// Groups with their weights and labels, and where they stand.
+/// Groups with their weights and labels, and where they are placed.
 #[derive(Clone, Copy)]
 struct Row {
     block_bits: u32,
@@ -165,7 +164,7 @@ struct Row {
     unused: &'static [Option<u32>],
 }
 
-/// Whether the helper tells of the elements and of the bases what a row says.
+/// Whether the helper marks elements and bases as a row says.
 fn has_marks(alloc: Global, helper: &BuildHelper, row: &Row) -> Result<bool, AllocError> {
     Ok(
         used(alloc, helper, false)?.as_slice() == row.used_indexes
@@ -174,7 +173,7 @@ fn has_marks(alloc: Global, helper: &BuildHelper, row: &Row) -> Result<bool, All
     )
 }
 
-/// Places the groups of a row, and asserts all that the helper tells of them.
+/// Places the groups of a row, and asserts all that the helper returns for them.
 fn assert_row(rt: &impl Abort, alloc: Global, row: &Row) -> Result<(), Fail> {
     let block_len = block_len(rt, row.block_bits);
     let num_nfa_states = row.idx_map.len();
@@ -190,7 +189,7 @@ fn assert_row(rt: &impl Abort, alloc: Global, row: &Row) -> Result<(), Fail> {
 }
 
 const ROWS: &[Row] = &[
-    // The root and the dead state have elements 0 and 1, another state that is no child has 1.
+    // The root and the dead state have the elements 0 and 1. Another that is no child has 1.
     Row {
         block_bits: 2,
         track_bases: true,
@@ -202,7 +201,7 @@ const ROWS: &[Row] = &[
         vacant: &[2, 3],
         unused: &[Some(0)],
     },
-    // A base that is taken is passed over where bases are tracked, and a block is added.
+    // If bases are tracked, a used base is skipped, and a block is added.
     Row {
         block_bits: 2,
         track_bases: true,
@@ -214,7 +213,7 @@ const ROWS: &[Row] = &[
         vacant: &[3, 5, 6, 7],
         unused: &[Some(0), Some(5)],
     },
-    // Where bases are not tracked, two groups may share one.
+    // If bases are not tracked, two groups may share one.
     Row {
         block_bits: 2,
         track_bases: false,
@@ -238,7 +237,7 @@ const ROWS: &[Row] = &[
         vacant: &[2],
         unused: &[Some(0)],
     },
-    // The tries go by the element of the first child, and all children have to fit.
+    // Bases are tried by the element of the first child, and all children have to fit.
     Row {
         block_bits: 2,
         track_bases: true,
@@ -250,7 +249,7 @@ const ROWS: &[Row] = &[
         vacant: &[2, 3],
         unused: &[Some(0), Some(5)],
     },
-    // The same where bases are not tracked.
+    // The same groups if bases are not tracked.
     Row {
         block_bits: 2,
         track_bases: false,
@@ -262,7 +261,7 @@ const ROWS: &[Row] = &[
         vacant: &[2, 3],
         unused: &[Some(0), Some(4)],
     },
-    // A block with all of its bases taken has no vacant element.
+    // A block whose bases are all used has no vacant element.
     Row {
         block_bits: 1,
         track_bases: true,
@@ -296,8 +295,8 @@ fn groups_stand_at_the_first_place_that_fits(rt: HostRuntime) -> Result<(), Fail
     Ok(())
 }
 
-/// A group that leaves element 3 vacant in blocks of 2, so many groups that fill a block each, and
-/// a last one.
+/// A group that leaves element 3 vacant in blocks of 2, then `pairs` groups that fill a block each,
+/// and a last one.
 fn groups_before(
     alloc: Global,
     pairs: usize,
@@ -313,9 +312,8 @@ fn groups_before(
     groups_of(alloc, &rows)
 }
 
-/// So many groups that fill a block, the weight of all groups but the last, the last group, and
-/// then the number of states, the element of the last state, the number of elements, and the vacant
-/// ones that are listed.
+/// The arguments of [`groups_before`], and what comes of them: the number of states, the element of
+/// the last state, the number of elements, and the vacant elements that are listed.
 #[derive(Clone, Copy)]
 struct LastRow {
     pairs: usize,
@@ -327,7 +325,7 @@ struct LastRow {
     vacant: &'static [u32],
 }
 
-/// Places the groups of a row, and asserts where the last one stands.
+/// Places the groups of a row, and asserts where the last one is.
 fn assert_last_row(rt: &impl Abort, alloc: Global, row: &LastRow) -> Result<(), Fail> {
     let block_len = block_len(rt, 1);
     let groups = groups_before(alloc, row.pairs, row.weight, row.last)?;

@@ -1,4 +1,4 @@
-//! Worked rows of the filter, its gate and its written form.
+//! Worked rows of the prefilter, its gate and its written form.
 
 use crate::expect;
 use daachorse_core::errors::DaachorseError;
@@ -9,7 +9,7 @@ use daachorse_serializer::serializer::SerializableVec;
 use std::alloc::{AllocError, Global};
 use std::test::Fail;
 
-/// The filter of these patterns.
+/// The prefilter of these patterns.
 fn filter_of(alloc: Global, patterns: &[&[u8]]) -> Result<Option<Prefilter>, DaachorseError> {
     let mut builder = PrefilterBuilder::new(alloc)?;
     for pattern in patterns {
@@ -18,7 +18,7 @@ fn filter_of(alloc: Global, patterns: &[&[u8]]) -> Result<Option<Prefilter>, Daa
     Ok(builder.build())
 }
 
-/// What is asked for a place.
+/// A call that looks for a candidate.
 #[derive(Clone, Copy)]
 enum Asked {
     Bytes,
@@ -27,7 +27,7 @@ enum Asked {
     FoldedText,
 }
 
-/// What a filter passes, in a text, from a place on.
+/// The first candidate in a text, from an offset on.
 fn place_of(filter: &Prefilter, asked: Asked, text: &str, from: usize) -> usize {
     match asked {
         Asked::Bytes => filter.next_position(text.as_bytes(), from),
@@ -37,7 +37,7 @@ fn place_of(filter: &Prefilter, asked: Asked, text: &str, from: usize) -> usize 
     }
 }
 
-/// The same by the calls that take a test, with the one that passes everywhere.
+/// The first candidate by the calls that take a test, with the test that passes everywhere.
 fn place_where(filter: &Prefilter, asked: Asked, text: &str, from: usize) -> usize {
     let bytes = text.as_bytes();
     match asked {
@@ -59,7 +59,7 @@ const KANA: &[&[u8]] = &[b"\xe3\x81\x82", b"\xe3\x81\x84"];
 
 const LATIN: &[&[u8]] = &[b"k\xc3\xa9", b"\xa9k"];
 
-/// Patterns, what is asked, a text, from where on a place is asked for, and the first that passes.
+/// Patterns, the call, a text, the offset to start from, and the first candidate.
 type Row = (&'static [&'static [u8]], Asked, &'static str, usize, usize);
 
 const ROWS: &[Row] = &[
@@ -77,8 +77,8 @@ const ROWS: &[Row] = &[
     (WORDS, Asked::FoldedBytes, "xxxarIAxxx", 5, 10),
     (WORDS, Asked::FoldedBytes, "XX@RIAXXXX", 0, 10),
     (WORDS, Asked::FoldedBytes, "XX[RISXXXX", 0, 10),
-    // A round reads sixteen pairs, or eight where case is disregarded. Here one has two windows that pass, and
-    // another window ends behind one.
+    // A round reads sixteen pairs, or eight if case is ignored. Here one round has two candidates,
+    // and another candidate's window ends after its round.
     (WORDS, Asked::Bytes, "xxxariaxxxirisxxxxxxxxxx", 0, 3),
     (WORDS, Asked::Bytes, "xxxariaxxxirisxxxxxxxxxx", 4, 10),
     (WORDS, Asked::FoldedBytes, "XXXXXXXXXXXXXXARIAXXXXXX", 0, 14),
@@ -110,7 +110,7 @@ fn the_first_place_that_passes_is_found(rt: HostRuntime) -> Result<(), Fail> {
     Ok(())
 }
 
-/// A text of so many bytes that repeat a filling, a word, and twenty bytes more.
+/// The first `count` characters of a repeated filling, then a word and twenty bytes more.
 fn text_of(alloc: Global, filling: &str, count: usize, word: &str) -> Result<String, AllocError> {
     let mut text = String::new(alloc);
     for character in filling.chars().cycle().take(count) {
@@ -121,18 +121,17 @@ fn text_of(alloc: Global, filling: &str, count: usize, word: &str) -> Result<Str
     Ok(text)
 }
 
-/// What is asked, what stands before a word, and the word. A round reads sixteen pairs, or eight.
+/// The call, what a text repeats before a word, and the word.
 const LONG_ROWS: [(Asked, &str, &str); 5] = [
     (Asked::Bytes, "x", "aria"),
-    // Each third pair begins a window here.
+    // Every third pair of bytes begins a window.
     (Asked::Bytes, "arx", "iris"),
     (Asked::FoldedBytes, "ArX", "iRiS"),
     (Asked::Text, "x", "aria"),
     (Asked::FoldedText, "X", "ARIA"),
 ];
 
-/// Whether the first place of a text is that of the word behind so many bytes, from each of these on, and
-/// there is none behind it.
+/// Whether the word after `count` bytes is the first candidate from three offsets on, and the last.
 fn is_first(filter: &Prefilter, asked: Asked, text: &str, count: usize) -> bool {
     for from in [0, count / 2, count] {
         if place_of(filter, asked, text, from) != count {
@@ -154,7 +153,7 @@ fn a_word_is_found_at_each_place_of_a_round(rt: HostRuntime) -> Result<(), Fail>
     Ok(())
 }
 
-/// The filter of the first of all pairs of bytes, in their order.
+/// The prefilter of the first `count` pairs of bytes, in their order.
 fn filter_of_pairs(alloc: Global, count: u32) -> Result<Option<Prefilter>, DaachorseError> {
     let mut builder = PrefilterBuilder::new(alloc)?;
     for pair in 0..count {
@@ -178,7 +177,7 @@ fn no_filter_is_made_in_vain(rt: HostRuntime) -> Result<(), Fail> {
     Ok(())
 }
 
-/// The written form of the filter of "aria" and "iris".
+/// The written form of the prefilter of aria and iris.
 fn written(alloc: Global) -> Result<Vec<u8>, DaachorseError> {
     let mut bytes = Vec::new(alloc);
     if let Some(filter) = filter_of(alloc, WORDS)? {
@@ -188,8 +187,8 @@ fn written(alloc: Global) -> Result<Vec<u8>, DaachorseError> {
     Ok(bytes)
 }
 
-/// Bytes of this form. The window has 4 bytes. "ar" begins a pattern, "ri" stands at place 1, and "ra"
-/// nowhere.
+/// Some bytes of the written form. The window has 4 bytes; ar begins a pattern, ri is at offset 1
+/// of one, and ra is in none.
 const FORM: [(usize, u8); 4] = [
     (0, 4),
     (1 + 256 * 97 + 114, 0b1111_1110),
@@ -207,7 +206,7 @@ fn a_filter_has_its_form(rt: HostRuntime) -> Result<(), Fail> {
     Ok(())
 }
 
-/// Whether a gate is open after so many runs of so many bytes.
+/// Whether a gate is open after this many more runs of this many bytes.
 fn is_open(gate: &mut PrefilterGate, runs: u32, bytes: usize) -> bool {
     for _ in 0..runs {
         gate.record(bytes);

@@ -1,5 +1,5 @@
-//! What a search over a document reads of a trie: visits and probes by state, worked out by hand
-//! from the rules, for each kind of trie, with a table in place of the root and without.
+//! Visits and probes of each state in searches over documents, worked out by hand for each kind of
+//! trie, with a table in place of the root and without.
 
 ghost use Rattle.std.specs.Prelude.{IfOk, length};
 ghost use Rattle.daachorse_build.specs.Builders.{states_of};
@@ -15,7 +15,7 @@ use daachorse_placement::build_helper::Profile;
 use std::alloc::Global;
 use std::test::Fail;
 
-/// A profile with a count of each kind for each state.
+/// A profile of this many states, with all counts 0.
 fn empty_profile(alloc: Global, num_states: usize) -> Result<Profile>
     ensures { IfOk result (HasCounts num_states) }
 {
@@ -24,8 +24,8 @@ fn empty_profile(alloc: Global, num_states: usize) -> Result<Profile>
     Ok(profile)
 }
 
-/// Patterns, documents, and the counts by state. States have numbers in the order in which the
-/// patterns make them: 0 is the root, 1 is dead, and 2 is the first label of the first pattern.
+/// Patterns, documents, and the counts by state. States are numbered as the patterns make them: 0
+/// is the root, 1 is dead, and 2 is the first label of the first pattern.
 struct Row<'a, L> {
     kind: MatchKind,
     dense_root: bool,
@@ -74,7 +74,7 @@ fn holds<L: EdgeLabel, H: Fn(L) -> bool>(
 
 /// Searches over bytes, where each byte has a label.
 const BYTES: &[Row<'static, u8>] = &[
-    // The table stands for the root.
+    // The table replaces the root.
     Row {
         kind: MatchKind::Standard,
         dense_root: true,
@@ -83,7 +83,7 @@ const BYTES: &[Row<'static, u8>] = &[
         visits: &[0, 0, 1, 2],
         probes: &[0, 0, 0, 0],
     },
-    // A link to the root, whose child the table tells.
+    // A failure link to the root, whose child is in the table.
     Row {
         kind: MatchKind::Standard,
         dense_root: true,
@@ -92,7 +92,7 @@ const BYTES: &[Row<'static, u8>] = &[
         visits: &[0, 0, 1, 0, 0],
         probes: &[0, 0, 1, 0, 0],
     },
-    // A link to another state: d is no child of ab, but of b.
+    // A failure link to another state: d is a child of b, not of ab.
     Row {
         kind: MatchKind::Standard,
         dense_root: true,
@@ -101,7 +101,7 @@ const BYTES: &[Row<'static, u8>] = &[
         visits: &[0, 0, 1, 2, 0, 1, 1],
         probes: &[0, 0, 0, 1, 0, 0, 0],
     },
-    // The same without a table.
+    // A failure link to the root, without a table.
     Row {
         kind: MatchKind::Standard,
         dense_root: false,
@@ -118,7 +118,7 @@ const BYTES: &[Row<'static, u8>] = &[
         visits: &[2, 0, 2, 2],
         probes: &[1, 0, 0, 0],
     },
-    // A standard search never begins again.
+    // A standard search never restarts.
     Row {
         kind: MatchKind::Standard,
         dense_root: false,
@@ -144,7 +144,7 @@ const BYTES: &[Row<'static, u8>] = &[
         visits: &[0, 0, 0, 0],
         probes: &[0, 0, 0, 0],
     },
-    // No edge is sought at a root without edges.
+    // No edge is looked up at a root without edges.
     Row {
         kind: MatchKind::Standard,
         dense_root: false,
@@ -153,7 +153,7 @@ const BYTES: &[Row<'static, u8>] = &[
         visits: &[2, 0],
         probes: &[0, 0],
     },
-    // Behind a, the search begins again: b and d are read twice.
+    // The search restarts after a, so b and d are read twice.
     Row {
         kind: MatchKind::LeftmostLongest,
         dense_root: false,
@@ -162,7 +162,7 @@ const BYTES: &[Row<'static, u8>] = &[
         visits: &[3, 0, 2, 2, 0],
         probes: &[2, 0, 0, 1, 0],
     },
-    // The last match counts, so only x is read twice.
+    // The search restarts after the last match, so only x is read twice.
     Row {
         kind: MatchKind::LeftmostLongest,
         dense_root: false,
@@ -171,7 +171,7 @@ const BYTES: &[Row<'static, u8>] = &[
         visits: &[2, 0, 2, 2],
         probes: &[1, 0, 0, 0],
     },
-    // The document ends before the search begins again.
+    // The document ends before the search restarts.
     Row {
         kind: MatchKind::LeftmostLongest,
         dense_root: false,
@@ -180,7 +180,7 @@ const BYTES: &[Row<'static, u8>] = &[
         visits: &[1, 0, 2, 1, 0],
         probes: &[0, 0, 0, 0, 0],
     },
-    // A link of a leftmost search that is not dead.
+    // A failure link of a leftmost search that is not dead.
     Row {
         kind: MatchKind::LeftmostLongest,
         dense_root: false,
@@ -219,7 +219,7 @@ const CHARACTERS: &[Row<'static, char>] = &[
         visits: &[4, 0, 4, 0, 2],
         probes: &[0, 0, 1, 0, 0],
     },
-    // It leads to the root, so that the search begins again behind the match.
+    // A character without a label leads to the root, so the search restarts after the match.
     Row {
         kind: MatchKind::LeftmostLongest,
         dense_root: false,
@@ -256,7 +256,7 @@ fn reads_of_characters_are_counted(rt: HostRuntime) -> Result<(), Fail> {
     Ok(())
 }
 
-/// Whether counts at the greatest number, or one below it, stay there.
+/// Whether counts stay at `usize::MAX` once they reach it.
 fn stay_at_the_greatest(alloc: Global) -> Result<bool> {
     let (builder, _order) = trie_of(alloc, MatchKind::Standard, &[b"ab".as_slice()])?;
     let mut profile = Profile {

@@ -1,16 +1,17 @@
-//! Want of memory, at each request of a call in turn: the answer is that error, and what a writer had is left.
+//! Runs out of memory at each allocation of a call in turn: the call returns that error, and a
+//! writer keeps what it had.
 
 use crate::expect;
+use daachorse_charwise_states::mapper::CodeMapper;
 use daachorse_core::MatchKind;
 use daachorse_core::errors::{DaachorseError, Result};
-use daachorse_charwise_states::mapper::CodeMapper;
 use daachorse_patterns::trie::build_trie;
 use daachorse_prefilter::prefilter::{Prefilter, PrefilterBuilder};
 use daachorse_serializer::serializer::SerializableVec;
 use refusing::{Answer, Call, Refusing, each_request};
 use std::alloc::Global;
 
-/// A call that asks for memory.
+/// A call that allocates.
 #[derive(Clone, Copy)]
 enum Request {
     CloneCodes,
@@ -31,7 +32,7 @@ const REQUESTS: [(Request, &str); 6] = [
     (Request::WriteList, "writing a list"),
 ];
 
-/// A filter of two words.
+/// The prefilter of two words.
 fn filter_of_words<'a>(
     heap: &'a Refusing<Global>,
 ) -> Result<Option<Prefilter<&'a Refusing<Global>>>> {
@@ -41,8 +42,8 @@ fn filter_of_words<'a>(
     Ok(builder.build())
 }
 
-/// Whether a value is written behind two bytes, which stay where it is not. What is written begins with
-/// these bytes.
+/// Whether a value is written after two bytes, which stay even if that fails. What is written
+/// begins with `beginning`.
 fn is_written<'a, S: SerializableVec>(
     heap: &'a Refusing<Global>,
     value: &S,
@@ -62,7 +63,7 @@ fn is_written<'a, S: SerializableVec>(
     }
 }
 
-/// Whether a filter is cloned, or written with the length of its window first.
+/// Whether a prefilter is cloned, or written with the length of its window first.
 fn gives_of_filter(heap: &Refusing<Global>, request: Request) -> Result<bool> {
     match filter_of_words(heap)? {
         None => Ok(false),
@@ -73,14 +74,13 @@ fn gives_of_filter(heap: &Refusing<Global>, request: Request) -> Result<bool> {
     }
 }
 
-/// Codes as they are written: how many entries there are, the
-/// entries, and the size of the alphabet.
+/// A written code mapper: the number of entries, the entries, and the size of the alphabet.
 const WRITTEN_CODES: [u8; 36] = [
     7, 0, 0, 0, 1, 0, 0, 0, 0, 0, 0, 0, 255, 255, 255, 255, 4, 0, 0, 0, 2, 0, 0, 0, 255, 255, 255,
     255, 3, 0, 0, 0, 5, 0, 0, 0,
 ];
 
-/// Whether codes are cloned, or written.
+/// Whether a code mapper is cloned, or written.
 fn gives_of_codes(heap: &Refusing<Global>, request: Request) -> Result<bool> {
     let codes = CodeMapper::new(heap, &[3, 6, 0, 2, 3, 0, 3])?;
     match request {
@@ -102,7 +102,7 @@ fn are_cloned(heap: &Refusing<Global>) -> Result<bool> {
     Ok(holds)
 }
 
-/// Whether a call gives what it should.
+/// Whether a call returns what it should.
 fn gives(heap: &Refusing<Global>, request: Request) -> Result<bool> {
     match request {
         Request::CloneCodes | Request::WriteCodes => gives_of_codes(heap, request),

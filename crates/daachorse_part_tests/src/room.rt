@@ -1,15 +1,16 @@
-//! Reads of bytes that promise more than they hold: no room is asked for before the bytes for it are there.
+//! Reads of bytes whose counts promise more than they hold: nothing is allocated before the bytes
+//! for it are there.
 
 use crate::expect;
+use daachorse_charwise_states::mapper::CodeMapper;
 use daachorse_core::Output;
 use daachorse_core::errors::DaachorseError;
-use daachorse_charwise_states::mapper::CodeMapper;
 use daachorse_prefilter::prefilter::Prefilter;
 use daachorse_serializer::serializer::{SerializableVec, Table};
 use refusing::Refusing;
 use std::alloc::Global;
 
-/// Whether bytes are refused for what they are.
+/// Whether these bytes are refused as no such value.
 fn is_refused<S: SerializableVec + Drop>(alloc: S::Alloc, bytes: &[u8]) -> bool {
     match S::deserialize_from_slice(alloc, bytes) {
         Ok(_) => false,

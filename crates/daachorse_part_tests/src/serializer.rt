@@ -1,4 +1,4 @@
-//! What no clause says: that each call succeeds where memory is ample, and the worked rows.
+//! Written forms, where no contract speaks: worked rows, and that calls succeed if memory is ample.
 
 use crate::expect;
 use crate::forms::{has_form, has_list_form, is_refused, lacks_bytes};
@@ -99,7 +99,7 @@ fn values_of_parts_have_their_forms(rt: HostRuntime) -> Result<(), Fail> {
     Ok(())
 }
 
-/// Kinds, whether case is disregarded, and the bytes of both.
+/// Kinds, whether case is ignored, and the byte of both.
 const MODES: [(MatchKind, bool, u8); 5] = [
     (MatchKind::Standard, false, 0),
     (MatchKind::LeftmostFirst, false, 2),

@@ -1,4 +1,4 @@
-//! What no clause says of texts: that each call runs, and the characters of a few of them.
+//! Texts, where no contract speaks: the characters of a few of them.
 
 use crate::expect;
 use daachorse_search::haystack::{Bytes, Haystack};
@@ -7,12 +7,12 @@ use daachorse_text::text::Text;
 use std::alloc::{AllocError, Global};
 use std::test::Fail;
 
-/// The characters of a string with their ends, by way of its bytes.
+/// The characters of a string with their end offsets, decoded from its bytes.
 fn characters_with_ends(alloc: Global, text: &str) -> Result<Vec<(usize, char)>, AllocError> {
     CharWithEndOffsetIterator::new(Bytes::new(text.as_bytes(), false)).collect(alloc)
 }
 
-/// The first and the last character of each width and those beside the surrogates, with their ends.
+/// The first and last character of each width, and those next to surrogates, with end offsets.
 const BOUNDS: [(usize, char); 10] = [
     (1, '\0'),
     (2, '\u{7f}'),
@@ -26,7 +26,7 @@ const BOUNDS: [(usize, char); 10] = [
     (26, '\u{10ffff}'),
 ];
 
-/// One character of each width, with their ends.
+/// One character of each width, with its end offset.
 const WIDTHS: [(usize, char); 4] = [(1, 'a'), (3, 'é'), (6, 'に'), (10, '\u{10000}')];
 
 #[test]

@@ -1,5 +1,5 @@
-//! What no clause says of a trie: the ids of its states, the order of its links and outputs, the
-//! order of its groups of siblings, and that each call succeeds where memory is ample.
+//! Tries, where no contract speaks: the ids of states, the order of links, outputs and sibling
+//! groups, and that calls succeed if memory is ample.
 
 ghost use Rattle.std.specs.Prelude.{IfOk};
 ghost use Rattle.daachorse_build.specs.Builders.{states_of};
@@ -16,7 +16,7 @@ use std::alloc::Global;
 use std::num::NonZeroU32;
 use std::test::Fail;
 
-/// The trie of these patterns without links. Pattern `i`, counted from 0, has the value `i`.
+/// The trie of these patterns without failure links. The value of a pattern is its index.
 fn unlinked<L: EdgeLabel>(
     alloc: Global,
     kind: MatchKind,
@@ -31,7 +31,7 @@ fn unlinked<L: EdgeLabel>(
     Ok(builder)
 }
 
-/// The trie of these patterns with its links and outputs, and the order of the states.
+/// The trie of these patterns with its failure links and outputs, and the order of its states.
 pub fn trie_of<L: EdgeLabel>(
     alloc: Global,
     kind: MatchKind,
@@ -50,9 +50,9 @@ pub fn trie_of<L: EdgeLabel>(
     Ok((builder, order))
 }
 
-/// A kind and patterns, and of the trie of them the order of the states, of each state its link and the
-/// position of its first output, and of each output its value, its length and the position of the
-/// next. The position 0 stands for none.
+/// A kind, patterns, and their trie: the order of its states, the failure link and the position of
+/// the first output of each state, and the value, the length and the next position of each output.
+/// Position 0 stands for none.
 struct Row {
     shows: &'static str,
     kind: MatchKind,
@@ -127,7 +127,7 @@ fn are_states(states: &[NfaBuilderState<u8, u32>], wanted: &[(u32, u32)]) -> Res
     Ok(states.len() == wanted.len())
 }
 
-/// Whether outputs have these values, lengths and positions.
+/// Whether outputs have these values, lengths and next positions.
 fn are_outputs(outputs: &[Output<u32>], wanted: &[(u32, u32, u32)]) -> bool {
     for (output, (value, length, parent)) in outputs.iter().zip(wanted) {
         if *output != Output::new(*value, *length, NonZeroU32::new(*parent)) {
@@ -137,7 +137,7 @@ fn are_outputs(outputs: &[Output<u32>], wanted: &[(u32, u32, u32)]) -> bool {
     outputs.len() == wanted.len()
 }
 
-/// Whether the trie of a row's patterns is the row's.
+/// Whether the trie of a row's patterns is as the row says.
 fn holds(alloc: Global, row: &Row) -> Result<bool> {
     let (builder, order) = trie_of(alloc, row.kind, row.patterns)?;
     Ok(
@@ -159,11 +159,11 @@ fn tries_have_states_links_and_outputs(rt: HostRuntime) -> Result<(), Fail> {
 /// A group's parent, weight and children.
 type Group = (u32, usize, &'static [(u32, u32)]);
 
-/// Visits and probes by state of the patterns ab, abc and bd, and their groups.
+/// Visits and probes by state for the patterns ab, abc and bd, and their groups.
 type Groups = (&'static [usize], &'static [usize], [Group; 4]);
 
 const GROUPS: [Groups; 2] = [
-    // They come off a stack.
+    // Without counts, groups come off a stack.
     (
         &[],
         &[],
@@ -174,7 +174,7 @@ const GROUPS: [Groups; 2] = [
             (3, 0, &[(3, 4)]),
         ],
     ),
-    // The heaviest come first, those of one weight as off the stack.
+    // The heaviest groups come first, those of one weight as off the stack.
     (
         &[8, 0, 1, 7, usize::MAX, 2, 9],
         &[1, 0, 2, 1, 0, 0, 0],
@@ -187,12 +187,12 @@ const GROUPS: [Groups; 2] = [
     ),
 ];
 
-/// The number of a letter.
+/// The number of a letter in the alphabet.
 fn code(label: u8) -> u32 {
     u32::from(label & 0x1f)
 }
 
-/// The groups of a trie by these counts, where there are none or one of each kind for each state.
+/// The groups of a trie by these counts, or by none unless each state has one of each kind.
 fn groups_of(
     alloc: Global,
     builder: &NfaBuilder<u8, u32>,
@@ -236,7 +236,7 @@ fn groups_come_off_a_stack_the_heaviest_first(rt: HostRuntime) -> Result<(), Fai
     Ok(())
 }
 
-/// A map of some edges, in which two labels get a second id.
+/// A map in which two labels get a second id.
 fn map_of_edges(alloc: Global) -> Result<EdgeMap<u8>> {
     let mut map = EdgeMap::default();
     for (label, id) in [
@@ -252,7 +252,7 @@ fn map_of_edges(alloc: Global) -> Result<EdgeMap<u8>> {
     Ok(map)
 }
 
-/// Whether the edges and the ids of a map are these.
+/// Whether a map has exactly these edges and ids, in this order.
 fn are_edges(map: &EdgeMap<u8>, wanted: &[(u8, u32)]) -> bool {
     let mut ids = map.values();
     for ((label, id), edge) in map.iter().zip(wanted) {

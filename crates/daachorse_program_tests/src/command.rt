@@ -1,5 +1,5 @@
-//! `daacfind`, where no clause speaks: the texts of the command, its arguments, a writer that fails
-//! in the middle of a line, and that the sink is flushed once, at the end.
+//! `daacfind`, where no contract speaks: its texts and arguments, a writer that fails within a
+//! line, and that the output is flushed once, at the end.
 
 ghost use Rattle.std.specs.Prelude.{None};
 
@@ -17,14 +17,14 @@ use std::io::{self, Write};
 use std::rt::Env;
 use std::test::Fail;
 
-// The name of a file that has the patterns.
+// A long file name, which has the patterns.
 const LONG: &[u8] = &[b'p'; 300];
 
 const USAGE: &[u8] = b"usage: daacfind overlapping|nosuffix|find|longest|first PATTERNS HAYSTACK\n";
 
 const PATTERNS: &[u8] = b"bcd\nab\na\n";
 
-/// A few files, one of which is the automaton, and the number of attempts to read one.
+/// A few files in memory, one of them the automaton, and how often a read was tried.
 #[derive(Drop)]
 pub struct Memory<'a> {
     pub alloc: Global,
@@ -51,7 +51,7 @@ impl Inputs for Memory<'_> {
     }
 }
 
-/// The words of a command line behind the program's name.
+/// The words of a command line after the program's name.
 #[derive(Drop)]
 pub struct Words<'a> {
     pub words: &'a [&'a [u8]],
@@ -79,15 +79,15 @@ impl Env for Words<'_> {
     }
 }
 
-// What a writer does that takes no more.
+// What a writer does once it takes no more.
 #[derive(Clone, Copy)]
 enum Halt {
     Fails,
     TakesNothing,
 }
 
-// Takes one byte a call, as many as are left, and halts from then on. Each flush notes how many
-// bytes were taken before it, and then fails where it is to.
+// A writer that takes `left` bytes, one a call, and then halts. A flush records how many bytes were
+// taken, and fails unless `can_flush`.
 #[derive(Drop)]
 struct Halting {
     left: usize,
@@ -98,7 +98,7 @@ struct Halting {
 }
 
 impl Halting {
-    // Takes so many bytes, and then fails.
+    // A writer that takes this many bytes, and then fails.
     fn new(alloc: Global, left: usize) -> Halting {
         Halting {
             left,
@@ -132,8 +132,8 @@ impl Write for Halting {
     }
 }
 
-// The words of a command line, and how the program ends: its status, what it writes, what it tells on standard
-// error, and how often it reads a file.
+// The words of a command line, and how the program ends: its status, its output, its messages on
+// standard error, and how often it reads a file.
 #[derive(Clone, Copy)]
 struct Row {
     shows: &'static str,
@@ -318,8 +318,8 @@ fn the_program_tells_its_status_and_its_cause(rt: HostRuntime) -> Result<(), Fai
     Ok(())
 }
 
-// The words of a command line, how many bytes the output and standard error take before they fail, the number of the
-// request for memory that is refused, and how the command ends: its status, and what it tells.
+// The words of a command line, how many bytes the output and standard error take before they fail,
+// the allocation that is refused, and how the command ends: its status and its messages.
 #[derive(Clone, Copy)]
 struct Failing {
     shows: &'static str,
@@ -411,7 +411,7 @@ fn a_command_that_fails_tells_its_status(rt: HostRuntime) {
     }
 }
 
-// Whether a lone argument is read whole.
+// Whether a single argument is read whole.
 fn is_read(alloc: Global, word: &[u8]) -> Result<bool, AllocError> {
     let arguments = Arguments::read(&Words { words: &[word] }, alloc)?;
     let texts = arguments.texts(alloc)?;
@@ -452,11 +452,11 @@ fn a_run_error_prints_its_cause(rt: HostRuntime) -> Result<(), Fail> {
     Ok(())
 }
 
-// What a run writes.
+// What a whole run writes.
 const WRITTEN: &[u8] = b"0 1 2\n0 2 1\n1 4 0\n";
 
-// Whether a run over a writer that takes so many bytes writes just these, and ends by an error unless that
-// is all and the writer can flush it.
+// Whether a run writes just the `left` bytes that its writer takes, and fails unless that is all
+// and the writer can flush.
 fn halts_so(alloc: Global, left: usize, halt: Halt, can_flush: bool) -> bool {
     let mut out = WriterSink::new(Halting {
         left,

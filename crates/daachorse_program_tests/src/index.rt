@@ -1,5 +1,4 @@
-//! `daacindex`: the statuses and texts of its command, and that a written automaton is searched as one that was
-//! built.
+//! `daacindex`: its statuses and texts, and that a written automaton finds what a built one does.
 
 use crate::command::{Memory, Words};
 use crate::expect;
@@ -11,10 +10,11 @@ use std::test::Fail;
 const USAGE: &[u8] =
     b"usage: daacindex write MODE PATTERNS | search MODE AUTOMATON HAYSTACK, MODE overlapping, nosuffix, find, longest or first\n";
 
-// How the program ends: its status, what it writes, what it tells on standard error, and how often it reads a file.
+// How the program ends: its status, its output, its messages on standard error, and how often it
+// reads a file.
 type End = (u8, Vec<u8>, Vec<u8>, u64);
 
-// How it ends over these words where a file is this automaton.
+// How the program ends on these words, with this automaton as a file.
 fn end_of(alloc: Global, automaton: &[u8], words: &[&[u8]]) -> Result<End, AllocError> {
     let mut files = Memory {
         alloc,
@@ -31,8 +31,8 @@ fn end_of(alloc: Global, automaton: &[u8], words: &[&[u8]]) -> Result<End, Alloc
 
 const LOST: &[u8] = b"daacindex: cannot read lost\n";
 
-// What is shown of a row, the words of a command line that writes nothing, and how the program ends: its status, what
-// it tells, and how often it reads a file.
+// What a row shows, the words of a command line without output, and how the program ends: its
+// status, its messages, and how often it reads a file.
 type Row = (
     &'static str,
     &'static [&'static [u8]],
@@ -83,7 +83,7 @@ const ROWS: &[Row] = &[
     ),
 ];
 
-// Whether it ends as the row says.
+// Whether the program ends as the row says.
 fn ends_so(alloc: Global, row: &Row) -> Result<bool, AllocError> {
     let (_shows, words, status, told, reads) = *row;
     let end = end_of(alloc, b"", words)?;
@@ -114,7 +114,7 @@ const WRITTEN_ROWS: &[WrittenRow] = &[
     ("first", b"chain", b"0 2 0\n", b"find"),
 ];
 
-// Whether a search by the automaton of a file finds this, or tells this cause.
+// Whether a search with an automaton from a file finds this, or fails with this message.
 fn searches_so(
     alloc: Global,
     automaton: &[u8],
@@ -132,7 +132,8 @@ const NO_AUTOMATON: &[u8] = b"InvalidAutomatonError: invalid serialized automato
 
 const OTHER_KIND: &[u8] = b"daacindex: the automaton is for another kind of search\n";
 
-// Whether the automaton of a row is written and searched, refused where its first byte is missing, and refused for another kind.
+// Whether the automaton of a row is written and searched, and is refused without its first byte and
+// for another kind of search.
 fn is_searched(alloc: Global, row: &WrittenRow) -> Result<bool, AllocError> {
     let (name, patterns, found, other) = *row;
     let mode = name.as_bytes();

@@ -1,5 +1,5 @@
-//! Tests of the programs, and of what stands on the facade `daachorse`: its public paths, values of
-//! one's own, and the callers of `daachorse_uses`.
+//! Tests of the programs and of what builds on the facade `daachorse`: its public paths, custom
+//! values, and the callers in `daachorse_uses`.
 #![tactic(auto)]
 
 #[cfg(test)]
@@ -20,7 +20,7 @@ mod values;
 #[cfg(test)]
 use std::process::Abort;
 
-/// Ends the test with what went wrong, unless `holds`. A call is proved faster than an assertion.
+/// Aborts with `what` unless `holds`. A call is proved faster than an assertion.
 #[cfg(test)]
 fn expect(rt: &impl Abort, holds: bool, what: &str) {
     assert!(rt; holds, "{what}");

@@ -1,5 +1,5 @@
-//! Automata with values of a type of one's own: they are written and read, and a value or a filter that is
-//! none is refused by its own error.
+//! Automata with values of a custom type: they are written and read, and a bad value or prefilter
+//! is refused with its own error.
 
 use crate::expect;
 use daachorse::errors::DaachorseError;
@@ -22,23 +22,23 @@ const SEVERE: Rating = Rating {
     level: Level::Severe,
 };
 
-/// The patterns ab and cd with their ratings.
+/// The patterns ab and cd with their ratings, over bytes.
 fn over_bytes(alloc: Global) -> Result<OverBytes> {
     OverBytes::with_values(alloc, [(b"ab".as_slice(), MILD), (b"cd", SEVERE)])
 }
 
-/// The same patterns over characters.
+/// The patterns ab and cd with their ratings, over characters.
 fn over_characters(alloc: Global) -> Result<OverCharacters> {
     OverCharacters::with_values(alloc, [("ab", MILD), ("cd", SEVERE)])
 }
 
-/// The outputs as they are written: how many there are, and of each the weight, the level, the length and
-/// the next, which there is not.
+/// The written outputs: how many there are, and of each the weight, the level, the length, and 0
+/// for no next output.
 const OUTPUTS: [u8; 26] = [
     2, 0, 0, 0, 0x23, 0x01, 1, 2, 0, 0, 0, 0, 0, 0, 0, 7, 0, 3, 2, 0, 0, 0, 0, 0, 0, 0,
 ];
 
-/// Whether an automaton over bytes is written with these outputs, and read again by both reads.
+/// Whether an automaton over bytes is written with these outputs, and returned by both reads.
 fn are_read_over_bytes(alloc: Global) -> Result<bool> {
     let words = over_bytes(alloc)?;
     let bytes = words.serialize(alloc)?;
@@ -48,7 +48,7 @@ fn are_read_over_bytes(alloc: Global) -> Result<bool> {
     Ok(are_written && checked == words && unchecked == words)
 }
 
-/// The same over characters.
+/// Whether an automaton over characters is written with these outputs, and returned by both reads.
 fn are_read_over_characters(alloc: Global) -> Result<bool> {
     let words = over_characters(alloc)?;
     let bytes = words.serialize(alloc)?;
@@ -66,8 +66,8 @@ fn ratings_are_written_and_read(rt: HostRuntime) -> Result<(), Fail> {
     Ok(())
 }
 
-/// What a row shows, places over bytes and over characters, a byte that stands there in place of its own, and
-/// whether the error is the one of the values. Else it is the one of the automaton.
+/// What a row shows, the places over bytes and over characters, the byte to put there, and whether
+/// the error is that of a value; else it is that of the automaton.
 const CHANGES: [(&str, usize, usize, u8, bool); 5] = [
     ("the level of ab is 0", 3090, 550, 0, true),
     ("the level of ab is 4", 3090, 550, 4, true),
@@ -76,7 +76,7 @@ const CHANGES: [(&str, usize, usize, u8, bool); 5] = [
     ("the entry of a and b is 255", 28047, 25507, 255, false),
 ];
 
-/// Puts a byte at a place.
+/// Sets the byte at a place.
 fn put(bytes: &mut [u8], place: usize, byte: u8) {
     if let Some(there) = bytes.get_mut(place) {
         *there = byte;

@@ -1,5 +1,4 @@
-//! The public paths of `daachorse`: each name that users have stands there, and a state can be
-//! looked at by them.
+//! The public paths of `daachorse`: each public name, and a look at a state through them.
 
 ghost use Rattle.std.specs.Prelude.{◌≡◌, IfOk};
 ghost use Rattle.daachorse_model.specs.declared.MatchKind.TheVariants.{Standard};
@@ -80,7 +79,7 @@ mod over_characters {
     };
 }
 
-/// Looks at the root by a label: where that leads, and the position of the root's outputs.
+/// Where a label leads from the root, and the position of the root's outputs.
 fn look_at_root<A: Automaton<u32>>(
     automaton: &A,
     label: A::Label,
@@ -93,7 +92,7 @@ fn look_at_root<A: Automaton<u32>>(
     )
 }
 
-/// The states of an automaton over bytes for the standard searches.
+/// The standard states of these patterns over bytes.
 fn states_of(alloc: Global, patvals: &[(&[u8], u32)]) -> Result<States<u32>>
     ensures { IfOk result (λ s. s.kind ≡ Standard) }
 {
@@ -101,7 +100,7 @@ fn states_of(alloc: Global, patvals: &[(&[u8], u32)]) -> Result<States<u32>>
     States::build(alloc, MatchKind::Standard, nfa, &Profile::new(alloc))
 }
 
-/// Whether a leads from the root to a state, and b back to it.
+/// Whether a leads away from the root, and b back to it.
 fn are_looks(states: &States<u32>) -> bool
     requires { states.now.kind ≡ Standard }
 {
@@ -115,7 +114,7 @@ fn are_looks(states: &States<u32>) -> bool
     is_away && position.is_some() && back == Look::Next(daachorse::ROOT_STATE_IDX, position)
 }
 
-/// The states over characters of no pattern, for the standard searches. The character 0 has a code.
+/// The standard states of no pattern over characters. U+0000 has a code.
 fn states_of_characters(alloc: Global) -> Result<over_characters::States<u32>>
     ensures { IfOk result (λ s. s.kind ≡ Standard) }
 {
@@ -129,7 +128,7 @@ fn states_of_characters(alloc: Global) -> Result<over_characters::States<u32>>
     over_characters::States::build(alloc, MatchKind::Standard, nfa, &profile, mapper)
 }
 
-/// Whether the code 0 is that of a character, and leads from the root back to it.
+/// Whether U+0000 has the code 0, which leads from the root back to it.
 fn is_look(states: &over_characters::States<u32>) -> bool
     requires { states.now.kind ≡ Standard }
 {

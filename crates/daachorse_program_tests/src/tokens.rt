@@ -1,4 +1,4 @@
-//! `daactok`: worked rows, also over an automaton that was written and read back.
+//! `daactok`: worked rows, over automata as built and as read back.
 
 ghost use Rattle.std.specs.Prelude.{◌≡◌, IfOk};
 ghost use Rattle.daachorse_charwise.specs.Automata.{kind_of};
@@ -22,7 +22,7 @@ fn build(alloc: Global, kind: MatchKind, folds: bool, words: &[&str]) -> Result<
     builder.build(alloc, words.iter().copied())
 }
 
-/// An automaton written, and read back by the read that checks.
+/// Writes an automaton, and reads it back with checks.
 fn read_back(alloc: Global, words: &Words) -> Result<Words> {
     let bytes = words.serialize(alloc)?;
     Ok(CharwiseDoubleArrayAhoCorasick::deserialize(alloc, &bytes)?.0)
@@ -31,7 +31,7 @@ fn read_back(alloc: Global, words: &Words) -> Result<Words> {
 /// A token: its text, its start, its end, and its value if it is a word.
 type Piece = (&'static str, usize, usize, Option<u32>);
 
-/// Whether the words cut the text into these tokens; not so where the tokenizer is refused.
+/// Whether the words cut the text into these tokens; false if the tokenizer is refused.
 fn cuts(words: &Words, text: &str, expected: &[Piece]) -> bool {
     if words.match_kind().is_standard() {
         return false;
@@ -49,7 +49,7 @@ fn cuts(words: &Words, text: &str, expected: &[Piece]) -> bool {
     left.next().is_none()
 }
 
-/// What a row asks for: a kind of searches, whether they disregard case, words, a text, and its tokens.
+/// A kind of searches, whether they ignore case, words, a text, and its tokens.
 type Row = (
     MatchKind,
     bool,

@@ -1,4 +1,4 @@
-//! `daachorse_uses`, where no clause speaks: that a redactor gets to the end of a text.
+//! `daachorse_uses`, where no contract speaks: that a redactor reaches the end of a text.
 
 use daachorse::DoubleArrayAhoCorasick;
 use daachorse_uses::redactor::redact_source;

@@ -1,4 +1,4 @@
-//! The values of indexes: one that a type does not have is refused, and each is an empty value.
+//! Indexes as values: one that the type cannot hold is refused, and `Empty` holds each.
 
 ghost use Rattle.std.specs.Prelude.{◌≡◌};
 ghost use Rattle.daachorse_model.specs.declared.MatchKind.TheVariants.{Standard};
@@ -8,7 +8,7 @@ use daachorse::{DoubleArrayAhoCorasick, Empty, Result};
 use std::alloc::Global;
 use std::test::Fail;
 
-/// Whether the matches in one letter have the values 0 to 255 in turn.
+/// Whether the matches in a haystack of one letter have the values 0 to 255 in turn.
 fn has_each_byte(automaton: &DoubleArrayAhoCorasick<u8>) -> bool
     requires { automaton.now.parts.kind ≡ Standard }
 {
@@ -22,7 +22,7 @@ fn has_each_byte(automaton: &DoubleArrayAhoCorasick<u8>) -> bool
     search.next().is_none()
 }
 
-/// Whether as many equal patterns as there are bytes have the values 0 to 255 in turn.
+/// Whether 256 equal patterns have the values 0 to 255 in turn.
 fn are_numbered(alloc: Global) -> Result<bool> {
     let automaton = DoubleArrayAhoCorasick::new(alloc, [b"a".as_slice(); 256])?;
     Ok(has_each_byte(&automaton))
@@ -41,7 +41,7 @@ fn an_index_without_a_value_is_refused(rt: HostRuntime) -> Result<(), Fail> {
     Ok(())
 }
 
-/// Whether just 300 matches are found in one letter.
+/// Whether exactly 300 matches are found in a haystack of one letter.
 fn has_300(automaton: &DoubleArrayAhoCorasick<Empty>) -> bool
     requires { automaton.now.parts.kind ≡ Standard }
 {

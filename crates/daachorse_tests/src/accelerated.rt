@@ -1,4 +1,4 @@
-//! How many states have rows, characters that have no slot there, and what patterns begin with.
+//! Rows of states: their number, characters without a slot, and what patterns begin with.
 
 use crate::automata::{Automaton, Bytewise, Charwise};
 use crate::expect;
@@ -7,8 +7,8 @@ use daachorse::{DoubleArrayAhoCorasick, MatchKind, Result};
 use std::alloc::Global;
 use std::test::Fail;
 
-/// Whether there is room for rows of 255 patterns of one byte each, and of so many of two of these
-/// bytes. A row has 260 slots, so that there are 485 rows.
+/// Whether rows are made for 255 patterns of one byte each and this many patterns of two of these
+/// bytes. A row has 260 slots, which leaves room for 485 rows.
 fn has_room(alloc: Global, pairs: usize) -> Result<bool> {
     let mut bytes = Vec::new(alloc);
     for byte in 0..255u8 {
@@ -32,7 +32,7 @@ fn rows_are_refused_past_their_room(rt: HostRuntime) -> Result<(), Fail> {
     Ok(())
 }
 
-/// The characters from U+4E00 to the one before this code point.
+/// The characters from U+4E00 up to, but not including, `past`.
 fn characters(alloc: Global, past: u32) -> Result<String> {
     let mut text = String::new(alloc);
     for code_point in 0x4e00..past {
@@ -43,8 +43,8 @@ fn characters(alloc: Global, past: u32) -> Result<String> {
     Ok(text)
 }
 
-/// Whether the last of 600 characters, which are equally frequent, is found behind a state with a
-/// row and behind one with none. It has no slot.
+/// Whether the last of 600 equally frequent characters, which has no slot, is found after a state
+/// with a row and after one without.
 fn finds_without_slot(alloc: Global) -> Result<bool> {
     let most = characters(alloc, 0x5057)?;
     let all = characters(alloc, 0x5058)?;
@@ -65,9 +65,9 @@ fn a_character_without_a_slot_is_found(rt: HostRuntime) -> Result<(), Fail> {
     Ok(())
 }
 
-/// Whether a search over rows of many states passes over what begins no pattern, and finds what does.
+/// Whether a search over rows skips what begins no pattern and finds what does.
 ///
-/// The filter passes at `abcy` too, whose pairs of bytes stand at the same places in the patterns.
+/// The prefilter passes at `abcy` too: its pairs of bytes have the same offsets in the patterns.
 fn finds_beginnings<T: Automaton<Alloc = Global>>(
     alloc: Global,
     way: Way,

@@ -1,5 +1,4 @@
-//! What is asked of an automaton over bytes as of one over characters: how it comes about, and what it
-//! finds, lists, replaces and is written as.
+//! What the tests ask of an automaton, over bytes or over characters.
 
 use crate::finding::Found;
 use crate::rows::{Read, Search, Way};
@@ -20,13 +19,13 @@ pub const KINDS: [MatchKind; 3] = [
     MatchKind::LeftmostFirst,
 ];
 
-/// Patterns for the ways to build by indexes. None is shorter than two bytes, so that they have a filter.
+/// Patterns whose values are their indexes. All have two bytes or more, as a prefilter needs.
 pub const PATTERNS: [&str; 3] = ["bcd", "abc", "ab"];
 
-/// `PATTERNS` with their indexes for values.
+/// `PATTERNS` with their indexes as values.
 pub const PATVALS: [(&str, u32); 3] = [("bcd", 0), ("abc", 1), ("ab", 2)];
 
-/// A build for the standard searches that is told nothing but `PATTERNS`, or with the values of `PATVALS`.
+/// A call that builds a standard automaton from `PATTERNS`, or from `PATVALS`.
 #[derive(Clone, Copy)]
 pub enum Plainly {
     New,
@@ -35,22 +34,23 @@ pub enum Plainly {
     BuildByCorpus,
 }
 
-/// Patterns by their units, with their values.
+/// Patterns as units, with their values.
 pub type Listed<A = Global> = Vec<(Vec<u32, A>, u32), A>;
 
-/// What is searched for matches in a text, with the text's bytes or its characters for units.
+/// What finds matches in a text, whose units are bytes or characters.
 pub trait Searched {
     type Alloc: Allocator + Copy;
 
-    /// Whether a search in the text as a whole finds just these matches. It is a leftmost search where
-    /// the automaton is for these.
+    /// Whether a search of the text as a slice returns exactly these matches. On a leftmost
+    /// automaton it is the leftmost search.
     fn finds_in_slice(&self, search: Search, text: &str, expected: &[Found]) -> bool;
 
-    /// Whether a search over the text's bytes one by one does, if there is one.
+    /// Whether a search that reads the text's bytes from an iterator returns exactly these matches,
+    /// or there is no such search.
     fn finds_in_source(&self, search: Search, text: &str, expected: &[Found]) -> bool;
 
-    /// Whether a stepper does that is given the text's units, if there is one, and tells these depths
-    /// before the first unit and behind each, or none.
+    /// Whether a stepper reports exactly these matches, and these depths before the first unit and
+    /// after each, or there is no such stepper. If `depths` is empty, the stepper must have none.
     fn finds_by_steps(
         &self,
         alloc: Self::Alloc,
@@ -61,17 +61,18 @@ pub trait Searched {
     ) -> Result<bool>;
 }
 
-/// What is searched for matches in bytes, which need not be those of a text.
+/// What finds matches in bytes that need not be a text.
 pub trait SearchedInBytes {
-    /// Whether a search in bytes as a whole finds just these matches. It is a leftmost search where the automaton is
-    /// for these.
+    /// Whether a search of the haystack as a slice returns exactly these matches. On a leftmost
+    /// automaton it is the leftmost search.
     fn finds_in_bytes(&self, search: Search, haystack: &[u8], expected: &[Found]) -> bool;
 
-    /// Whether a search over bytes one by one does, if there is one.
+    /// Whether a search that reads the bytes from an iterator returns exactly these matches, or
+    /// there is no such search.
     fn finds_in_source_of_bytes(&self, search: Search, haystack: &[u8], expected: &[Found]) -> bool;
 
-    /// Whether a stepper does that is given these bytes, if there is one, and tells these depths before the first
-    /// byte and behind each, or none.
+    /// Whether a stepper reports exactly these matches, and these depths before the first byte and
+    /// after each, or there is no such stepper. If `depths` is empty, the stepper must have none.
     fn finds_by_steps_of_bytes(
         &self,
         search: Search,
@@ -81,7 +82,7 @@ pub trait SearchedInBytes {
     ) -> bool;
 }
 
-/// Whether each form of a search finds just these matches in bytes.
+/// Whether each form of a search returns exactly these matches in a haystack of bytes.
 pub fn finds_of_bytes<S: SearchedInBytes>(
     searched: &S,
     search: Search,
@@ -93,7 +94,7 @@ pub fn finds_of_bytes<S: SearchedInBytes>(
         && searched.finds_by_steps_of_bytes(search, haystack, expected, &[])
 }
 
-/// Whether each form of a search finds just these matches in a text.
+/// Whether each form of a search returns exactly these matches in a text.
 pub fn finds<S: Searched>(
     alloc: S::Alloc,
     searched: &S,
@@ -108,15 +109,15 @@ pub fn finds<S: Searched>(
     )
 }
 
-/// An automaton, with texts for patterns.
+/// An automaton whose patterns are texts.
 pub trait Automaton: Searched + PartialEq + Hash + Drop + Sized {
-    /// How wide its units are.
+    /// The width of its units.
     fn width() -> Width;
 
-    /// The units of a text.
+    /// The units of a text, as numbers.
     fn units(alloc: Self::Alloc, text: &str) -> Result<Vec<u32, Self::Alloc>>;
 
-    /// The automaton of these patterns as this way builds it.
+    /// Builds the automaton of these patterns in this way.
     fn built(
         alloc: Self::Alloc,
         way: Way,
@@ -124,43 +125,43 @@ pub trait Automaton: Searched + PartialEq + Hash + Drop + Sized {
         patvals: &[(&str, u32)],
     ) -> Result<Self>;
 
-    /// The automaton of `PATVALS`.
+    /// Builds the automaton of `PATVALS` by this call.
     fn built_plainly(alloc: Self::Alloc, how: Plainly) -> Result<Self>;
 
-    /// The automaton written and read back with a byte 42 behind it, by the read that checks or the
-    /// other, and whether that byte alone is left.
+    /// Writes the automaton and a byte 42, and reads them with or without checks. Returns what was
+    /// read, and whether just that byte is left.
     fn read_back(&self, alloc: Self::Alloc, is_checked: bool) -> Result<(Self, bool)>;
 
-    /// The automaton that these bytes hold, by the read that checks.
+    /// Reads an automaton with checks.
     fn read(alloc: Self::Alloc, bytes: &[u8]) -> Result<Self>;
 
-    /// Its bytes.
+    /// The written automaton.
     fn written(&self, alloc: Self::Alloc) -> Result<Vec<u8, Self::Alloc>>;
 
     /// A clone.
     fn cloned(&self) -> Result<Self>;
 
-    /// Caches the depths, if it is for the standard searches.
+    /// Caches the depths of a standard automaton; does nothing on a leftmost one.
     fn cache(&mut self) -> Result<()>;
 
-    /// Whether these are the patterns that it lists. Where one of them is refused, those before it came as they are,
-    /// it is the last, and that error is returned.
+    /// Whether exactly these patterns are listed, in this order. An error of the listing is
+    /// returned if the patterns before it are as expected and nothing follows it.
     fn lists(&self, alloc: Self::Alloc, expected: &[(&str, u32)]) -> Result<bool>;
 
-    /// The patterns that it lists.
+    /// The patterns, as it lists them.
     fn listed(&self, alloc: Self::Alloc) -> Result<Listed<Self::Alloc>>;
 
-    /// Its kind of searches, and whether they disregard the case of ASCII letters.
+    /// Its match kind, and whether it ignores ASCII case.
     fn kind(&self) -> (MatchKind, bool);
 
-    /// How many states it has.
+    /// The number of its states.
     fn count_states(&self) -> usize;
 
-    /// The first match by its kind in a text, and whether there is one.
+    /// What `find` and `is_match` return for a text.
     fn first(&self, text: &str) -> (Option<Match<u32>>, bool);
 
-    /// Whether each form of a search finds just these matches with rows of its states. Not so where there
-    /// is no room for rows.
+    /// Whether each form of a search over rows returns exactly these matches; false if there is no
+    /// room for rows.
     fn finds_with_rows(
         &self,
         alloc: Self::Alloc,
@@ -169,19 +170,19 @@ pub trait Automaton: Searched + PartialEq + Hash + Drop + Sized {
         expected: &[Found],
     ) -> Result<bool>;
 
-    /// The text's bytes with a dash for each match of value 0, and nothing for one of value 1.
+    /// The text in bytes, with `-` for each match of value 0 and nothing for each of value 1.
     fn replaced(&self, alloc: Self::Alloc, text: &str) -> Result<Vec<u8, Self::Alloc>>;
 
     /// Writes what [`Self::replaced`] returns.
     fn replaces_into<W: Write>(&self, text: &str, out: &mut W) -> io::Result<()>;
 }
 
-/// The error of a listing where it was the last, and else that the listing is wrong.
+/// The outcome of a listing that returned an error: the error if nothing follows it, else false.
 pub fn refused(error: DaachorseError, is_last: bool) -> Result<bool> {
     if is_last { Err(error) } else { Ok(false) }
 }
 
-/// The automaton of these patterns that comes about this way.
+/// Builds the automaton of these patterns in this way, then writes and reads it if the way says so.
 pub fn made<S: Automaton>(
     alloc: S::Alloc,
     way: Way,

@@ -1,4 +1,4 @@
-//! The automaton over bytes, as it is and with rows of its states.
+//! What the tests ask of the automaton over bytes, with rows and without.
 
 use crate::automata::{
     Automaton, Bytewise, Listed, PATVALS, Plainly, Searched, SearchedInBytes, finds, refused,
@@ -202,7 +202,7 @@ fn builder<A: Allocator + Copy>(
     Ok(builder)
 }
 
-/// The automaton of these patterns of bytes as this way builds it.
+/// Builds the automaton of these patterns of bytes in this way.
 pub fn built_of_bytes<A: Allocator + Copy>(
     alloc: A,
     way: Way,
@@ -212,7 +212,7 @@ pub fn built_of_bytes<A: Allocator + Copy>(
     builder(alloc, way, kind)?.build_with_values(alloc, patvals.iter().copied())
 }
 
-/// The numbers of bytes.
+/// The bytes as numbers.
 pub fn numbers<A: Allocator>(alloc: A, bytes: &[u8]) -> Result<Vec<u32, A>> {
     let mut numbers = Vec::new(alloc);
     for byte in bytes {
@@ -221,7 +221,7 @@ pub fn numbers<A: Allocator>(alloc: A, bytes: &[u8]) -> Result<Vec<u32, A>> {
     Ok(numbers)
 }
 
-/// Appends a pattern, if it came.
+/// Appends a pattern, or returns its error.
 fn push<A: Allocator + Copy>(
     patterns: &mut Listed<A>,
     item: Result<(Vec<u8, A>, u32)>,

@@ -1,4 +1,4 @@
-//! The automaton over characters, as it is and with rows of its states.
+//! What the tests ask of the automaton over characters, with rows and without.
 
 use crate::automata::{
     Automaton, Charwise, Listed, PATTERNS, PATVALS, Plainly, Searched, finds, refused,
@@ -155,7 +155,7 @@ fn builder<A: Allocator + Copy>(
     Ok(builder)
 }
 
-/// The numbers of the characters of a text.
+/// The characters of a text, as numbers.
 fn numbers<A: Allocator>(alloc: A, text: &str) -> Result<Vec<u32, A>> {
     let mut numbers = Vec::new(alloc);
     for character in text.chars() {
@@ -164,7 +164,7 @@ fn numbers<A: Allocator>(alloc: A, text: &str) -> Result<Vec<u32, A>> {
     Ok(numbers)
 }
 
-/// Appends a pattern, if it came.
+/// Appends a pattern, or returns its error.
 fn push<A: Allocator + Copy>(
     patterns: &mut Listed<A>,
     item: Result<(String<A>, u32)>,

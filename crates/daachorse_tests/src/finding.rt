@@ -1,6 +1,4 @@
-//! What a search finds, beside what is expected: of an iterator, and of a stepper after each unit.
-//!
-//! All of it holds for bytes and characters alike.
+//! Compares the matches of an iterator, and those of a stepper after each unit, with expected ones.
 
 ghost use Rattle.std.specs.Iterator.{IsFinite};
 ghost use Rattle.std.specs.Prelude.{◌≡◌, []};
@@ -21,7 +19,7 @@ use std::slice::Iter;
 /// The start, the end and the value of a match.
 pub type Found = (usize, usize, u32);
 
-/// The matches and the depths that are still expected, and whether all that came were expected.
+/// The matches and depths still to come, and whether all so far were expected.
 #[derive(Drop)]
 struct Expected<'a> {
     left: Iter<'a, Found>,
@@ -38,12 +36,12 @@ impl<'a> Expected<'a> {
         }
     }
 
-    /// Takes the next depth; there is none where none is left.
+    /// Takes a depth; `None` is expected after the last.
     fn take_depth(&mut self, depth: Option<u32>) {
         self.holds = self.holds && self.depths.next() == depth.as_ref();
     }
 
-    /// Takes the next match, and answers whether it was expected.
+    /// Takes a match, and returns whether all so far were expected.
     fn take(&mut self, found: Match<u32>) -> bool {
         match self.left.next() {
             Some((start, end, value)) => {
@@ -55,7 +53,7 @@ impl<'a> Expected<'a> {
         self.holds
     }
 
-    /// Takes the matches in turn, up to the first that was not expected.
+    /// Takes the matches in turn, up to the first unexpected one.
     fn take_all<I: Iterator<Item = Match<u32>> + Drop>(&mut self, matches: I)
         requires can { I.can_next matches }
         requires ends { IsFinite (I.remaining matches) }
@@ -67,7 +65,7 @@ impl<'a> Expected<'a> {
         }
     }
 
-    /// Whether just the expected matches came.
+    /// Whether exactly the expected matches came.
     fn is_met(&self) -> bool {
         self.holds && self.left.len() == 0
     }
@@ -83,8 +81,7 @@ pub fn are<I: Iterator<Item = Match<u32>> + Drop>(matches: I, expected: &[Found]
     expected.is_met()
 }
 
-/// Whether a search in a haystack gives the expected matches, in this order. It is dropped behind the
-/// first match that is not expected.
+/// Whether a search returns the expected matches, in this order. It is dropped at any other.
 pub fn gives<W: Stepwise<u32>, H: Haystack<W::Unit>, F: Filter<W::Unit, H>>(
     mut search: Matches<u32, W, H, F>,
     expected: &[Found],
@@ -95,8 +92,8 @@ pub fn gives<W: Stepwise<u32>, H: Haystack<W::Unit>, F: Filter<W::Unit, H>>(
     expected.is_met()
 }
 
-/// Whether a leftmost search in a haystack gives the expected matches, in this order. It is dropped behind
-/// the first match that is not expected.
+/// Whether a leftmost search returns the expected matches, in this order. It is dropped at any
+/// other.
 pub fn gives_leftmost<A: Automaton<u32>, H: Haystack<A::Unit>, F: Filter<A::Unit, H>>(
     mut search: LeftmostMatches<u32, A, H, F>,
     expected: &[Found],
@@ -107,8 +104,8 @@ pub fn gives_leftmost<A: Automaton<u32>, H: Haystack<A::Unit>, F: Filter<A::Unit
     expected.is_met()
 }
 
-/// Whether a stepper that has consumed nothing tells just these matches and these depths, before the
-/// units and behind each of the first thousand. It consumes none behind the first that is not expected.
+/// Whether a fresh stepper reports exactly these matches and depths, before the first unit and
+/// after each. It stops at the first unexpected one, and after a thousand units.
 pub fn are_found<A: Automaton<u32>>(
     stepper: &mut FindStepper<'_, u32, A>,
     units: &[A::Unit],
@@ -136,8 +133,8 @@ where
     expected.is_met()
 }
 
-/// Whether a stepper for all matches that has consumed nothing tells just these matches and these depths,
-/// before the units and behind each of the first thousand. It consumes none behind the first that is not expected.
+/// Whether a fresh overlapping stepper reports exactly these matches and depths, before the first
+/// unit and after each. It stops at the first unexpected one, and after a thousand units.
 pub fn are_found_overlapping<A: Automaton<u32>>(
     stepper: &mut FindOverlappingStepper<'_, u32, A>,
     units: &[A::Unit],

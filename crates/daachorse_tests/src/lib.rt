@@ -1,8 +1,7 @@
-//! Tests of the automata, by the paths of `daachorse`: worked rows of what is built and of what the
-//! searches find, what is written and read, refusals, and each growth refused in turn.
+//! Tests of the automata through the public paths of `daachorse`: what is built, found, written,
+//! read and refused.
 //!
-//! Functions are short, and each search is begun in one place: that is what keeps the proof of this
-//! crate short.
+//! Functions are short and each search is begun in one place, which keeps the proofs short.
 #![tactic(auto)]
 
 #[cfg(test)]
@@ -43,19 +42,19 @@ use std::hash::{DefaultHasher, Hash, Hasher};
 #[cfg(test)]
 use std::process::Abort;
 
-/// Ends the test with what went wrong, unless `holds`. A call is proved faster than an assertion.
+/// Aborts with `what` unless `holds`. A call is proved faster than an assertion.
 #[cfg(test)]
 fn expect(rt: &impl Abort, holds: bool, what: &str) {
     assert!(rt; holds, "{what}");
 }
 
-/// Ends the test with what went wrong and over what units, unless `holds`.
+/// Aborts with `what` and the kind of units unless `holds`.
 #[cfg(test)]
 fn expect_over(rt: &impl Abort, holds: bool, what: &str, units: &str) {
     assert!(rt; holds, "{what}, over {units}");
 }
 
-/// Ends the test with what went wrong at which byte, unless `holds`.
+/// Aborts with `what`, the place and the byte unless `holds`.
 #[cfg(test)]
 fn expect_at(rt: &impl Abort, holds: bool, what: &str, place: usize, byte: u8) {
     assert!(rt; holds, "{what}: byte {place} ({byte})");

@@ -1,4 +1,4 @@
-//! The listing of the patterns, the number of states, equality and hashes, and the ways to build.
+//! The listing of patterns, the number of states, equality, hashes, and the ways to build.
 
 use crate::automata::{Automaton, Bytewise, Charwise, PATVALS, Plainly};
 use crate::rows::{BUILT, FOLDING, Patvals, UNFILTERED, Way};
@@ -8,8 +8,8 @@ use std::alloc::Global;
 use std::process::Abort;
 use std::test::Fail;
 
-/// What a row shows, a way, a kind, patterns, the listing of them, and the numbers of states over bytes and over
-/// characters.
+/// What a row shows, a way, a kind, patterns, their listing, and the numbers of states over bytes
+/// and over characters.
 type Row = (&'static str, Way, MatchKind, Patvals, Patvals, usize, usize);
 
 const ROWS: &[Row] = &[
@@ -132,7 +132,7 @@ const ROWS: &[Row] = &[
     ),
 ];
 
-/// Whether a row holds, of automata with so many states.
+/// Whether an automaton of a row has this many states and lists its patterns as the row says.
 fn holds<S: Automaton>(alloc: S::Alloc, row: &Row, num_states: usize) -> Result<bool> {
     let (_, way, kind, patvals, listed, _, _) = *row;
     let automaton = S::built(alloc, way, kind, patvals)?;
@@ -148,7 +148,7 @@ fn patterns_are_listed_in_byte_order(rt: HostRuntime) -> Result<(), Fail> {
     Ok(())
 }
 
-/// What a row shows, a kind, texts, and the number of elements over characters.
+/// What a row shows, a kind, patterns, and the number of elements over characters.
 type Length = (&'static str, MatchKind, Patvals, usize);
 
 const LENGTHS: &[Length] = &[
@@ -159,7 +159,7 @@ const LENGTHS: &[Length] = &[
         &[("ＡＡ", 0), ("ＡＣ", 1), ("ＢＣ", 2), ("Ｃ", 3)],
         12,
     ),
-    // The second pattern is left out, and its characters still have codes.
+    // The second pattern is left out, but its characters have codes.
     (
         "a pattern that is left out",
         MatchKind::LeftmostFirst,
@@ -177,10 +177,10 @@ fn blocks_are_as_long_as_the_alphabet(rt: HostRuntime) -> Result<(), Fail> {
     Ok(())
 }
 
-/// A beginning, and the last of the characters that follow it, of which U+0000 is the first.
+/// A prefix, and the last of the characters that follow it; the first is U+0000.
 type Group = (&'static str, char);
 
-/// What a row shows, groups of patterns, the numbers of elements and of states, and bases by element.
+/// What a row shows, groups of patterns, the numbers of elements and states, and bases by element.
 type Layout = (
     &'static str,
     &'static [Group],
@@ -226,7 +226,7 @@ fn patterns_of(alloc: Global, groups: &[Group]) -> Result<Vec<String>> {
     Ok(patterns)
 }
 
-/// The automaton over characters of these patterns, each with the value 0.
+/// Builds the automaton over characters of these patterns, each with the value 0.
 fn built_of(alloc: Global, patterns: &[String]) -> Result<Charwise> {
     let mut patvals = Vec::new(alloc);
     for pattern in patterns {
@@ -235,7 +235,7 @@ fn built_of(alloc: Global, patterns: &[String]) -> Result<Charwise> {
     Charwise::built(alloc, BUILT, MatchKind::Standard, &patvals)
 }
 
-/// Whether elements have these bases in the bytes of an automaton: element i stands behind 4 + 16 * i bytes.
+/// Whether elements have these bases in a written automaton. Element i begins at byte 4 + 16 * i.
 fn have_bases(bytes: &[u8], bases: &[(usize, u32)]) -> bool {
     for (element, base) in bases {
         let behind = bytes.iter().copied().skip(4).skip(16 * (element % 1000));
@@ -246,7 +246,7 @@ fn have_bases(bytes: &[u8], bases: &[(usize, u32)]) -> bool {
     true
 }
 
-/// Whether an automaton has the numbers of elements and of states of a row, and its bases.
+/// Whether an automaton has the numbers of elements and states of a row, and its bases.
 fn is_laid_out(alloc: Global, row: &Layout) -> Result<bool> {
     let (_, groups, num_elements, num_states, bases) = *row;
     let automaton = built_of(alloc, &patterns_of(alloc, groups)?)?;
@@ -265,12 +265,12 @@ fn siblings_share_blocks(rt: HostRuntime) -> Result<(), Fail> {
     Ok(())
 }
 
-/// Whether two automata are the same, and have the same hash.
+/// Whether two automata are equal, and have the same hash.
 fn are_same<S: Automaton>(one: &S, other: &S) -> bool {
     one == other && hash_of(one) == hash_of(other)
 }
 
-/// Whether an automaton is the same as its clone and as what is read of its bytes, nothing more.
+/// Whether an automaton equals its clone and what each read returns, which leaves what follows.
 fn is_copied<S: Automaton>(alloc: S::Alloc, kind: MatchKind) -> Result<bool> {
     let automaton = S::built(alloc, BUILT, kind, &PATVALS)?;
     let (checked, is_left) = automaton.read_back(alloc, true)?;
@@ -284,25 +284,25 @@ fn is_copied<S: Automaton>(alloc: S::Alloc, kind: MatchKind) -> Result<bool> {
     )
 }
 
-/// Whether a way to build gives what a builder does with the same patterns and values.
+/// Whether a call builds what a builder does from the same patterns and values.
 fn is_built_alike<S: Automaton>(alloc: S::Alloc, how: Plainly) -> Result<bool> {
     let automaton = S::built(alloc, BUILT, MatchKind::Standard, &PATVALS)?;
     Ok(S::built_plainly(alloc, how)? == automaton)
 }
 
-/// Whether two automata are not the same, and have other hashes.
+/// Whether two automata are unequal, and have different hashes.
 fn are_others<S: Automaton>(one: &S, other: &S) -> bool {
     one != other && hash_of(one) != hash_of(other)
 }
 
-/// Whether an automaton that has no filter is another.
+/// Whether an automaton without a prefilter differs from one with it.
 fn is_other_unfiltered<S: Automaton>(alloc: S::Alloc) -> Result<bool> {
     let automaton = S::built(alloc, BUILT, MatchKind::Standard, &PATVALS)?;
     let unfiltered = S::built(alloc, UNFILTERED, MatchKind::Standard, &PATVALS)?;
     Ok(are_others(&automaton, &unfiltered))
 }
 
-/// Whether an automaton that caches its depths is another.
+/// Whether an automaton with cached depths differs from one without.
 fn is_other_cached<S: Automaton>(alloc: S::Alloc) -> Result<bool> {
     let automaton = S::built(alloc, BUILT, MatchKind::Standard, &PATVALS)?;
     let mut cached = automaton.cloned()?;
@@ -310,13 +310,13 @@ fn is_other_cached<S: Automaton>(alloc: S::Alloc) -> Result<bool> {
     Ok(are_others(&automaton, &cached))
 }
 
-/// Three patterns, not in the order of their units.
+/// Three patterns, out of order.
 const AS_GIVEN: [(&str, u32); 3] = [("abba", 1), ("baaba", 2), ("ababa", 0)];
 
-/// The same in order.
+/// The patterns of [`AS_GIVEN`] in order.
 const IN_ORDER: [(&str, u32); 3] = [("ababa", 0), ("abba", 1), ("baaba", 2)];
 
-/// Whether the order of patterns leaves an automaton as it is.
+/// Whether the order of the patterns makes no difference to the automaton.
 fn is_ordered<S: Automaton>(alloc: S::Alloc) -> Result<bool> {
     let one = S::built(alloc, BUILT, MatchKind::Standard, &AS_GIVEN)?;
     let other = S::built(alloc, BUILT, MatchKind::Standard, &IN_ORDER)?;
@@ -330,14 +330,14 @@ const COPIED: [(&str, MatchKind); 3] = [
     ("copies for the first", MatchKind::LeftmostFirst),
 ];
 
-/// The ways to build that are told no more than the patterns, or these with their values.
+/// The calls that build from patterns, or patterns with values, alone.
 const BUILT_ALIKE: [(&str, Plainly); 3] = [
     ("new", Plainly::New),
     ("with_values", Plainly::WithValues),
     ("build", Plainly::Build),
 ];
 
-/// Asserts that copies are the same, that so are automata that are built alike, and that others are not.
+/// Asserts that copies and like builds are equal, and that others are not.
 fn are_told_apart<S: Automaton<Alloc = Global>>(
     rt: &impl Abort,
     alloc: Global,

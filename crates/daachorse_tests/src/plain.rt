@@ -1,5 +1,4 @@
-//! Automata of patterns of many kinds beside the plain searches, over bytes and over characters, with a filter and
-//! without.
+//! Automata compared with the plain searches of the model, with a prefilter and without.
 
 use crate::automata::{Automaton, Bytewise, Charwise, KINDS, finds};
 use crate::expect;
@@ -12,7 +11,7 @@ use daachorse_model::slow::{
 use std::alloc::Global;
 use std::test::Fail;
 
-/// What a plain search finds of patterns in a haystack, each by its units, which are so wide.
+/// What the plain search finds for patterns of units of this width.
 pub fn slowly(
     alloc: Global,
     width: Width,
@@ -37,7 +36,7 @@ pub fn slowly(
     Ok(found)
 }
 
-/// What a plain search finds of patterns in a text, over the units of an automaton.
+/// What the plain search finds in a text, over the units of an automaton.
 fn slowly_in_text<S: Automaton<Alloc = Global>>(
     alloc: Global,
     search: Search,
@@ -48,8 +47,8 @@ fn slowly_in_text<S: Automaton<Alloc = Global>>(
     slowly(alloc, S::width(), search, patterns, &units)
 }
 
-/// Whether these searches find in the texts what the plain ones find for these patterns: in slices, and if
-/// that is wanted in each other form.
+/// Whether these searches find what the plain ones find in the texts: in slices, and if
+/// `in_each_form` in each other form.
 fn are_plain<S: Automaton<Alloc = Global>>(
     alloc: Global,
     automaton: &S,
@@ -74,7 +73,7 @@ fn are_plain<S: Automaton<Alloc = Global>>(
     Ok(true)
 }
 
-/// The searches of a kind of automata.
+/// The searches of an automaton of this kind.
 fn searches_of(kind: MatchKind) -> &'static [Search] {
     match kind {
         MatchKind::Standard => &[Search::Overlapping, Search::NoSuffix, Search::Standard],
@@ -83,8 +82,8 @@ fn searches_of(kind: MatchKind) -> &'static [Search] {
     }
 }
 
-/// Whether an automaton finds in the texts what the plain searches find for the patterns that it lists. An
-/// automaton of either leftmost kind finds the longest of the patterns that it kept.
+/// Whether an automaton finds what the plain searches find for the patterns that it lists. A
+/// leftmost automaton of either kind finds the longest of the patterns that it kept.
 pub fn finds_plainly<S: Automaton<Alloc = Global>>(
     alloc: Global,
     automaton: &S,
@@ -99,7 +98,7 @@ pub fn finds_plainly<S: Automaton<Alloc = Global>>(
     are_plain(alloc, automaton, searches_of(kind), &listed, texts, false)
 }
 
-/// The patterns by their units, with their values.
+/// The patterns as units, with their values.
 fn in_units<S: Automaton<Alloc = Global>>(
     alloc: Global,
     patvals: &[(&str, u32)],
@@ -111,8 +110,8 @@ fn in_units<S: Automaton<Alloc = Global>>(
     Ok(patterns)
 }
 
-/// Whether automata of these patterns, of each kind, with a filter and without, find in the texts what the
-/// plain searches find.
+/// Whether automata of these patterns find what the plain searches find, for each kind, with a
+/// prefilter and without.
 fn are_found<S: Automaton<Alloc = Global>>(
     alloc: Global,
     patvals: &[(&str, u32)],
@@ -131,7 +130,7 @@ fn are_found<S: Automaton<Alloc = Global>>(
     Ok(true)
 }
 
-/// Patterns of one to four bytes a character: equal ones, an empty one, one that another begins with.
+/// Patterns with characters of one to four bytes, among them equal ones and an empty one.
 const PATTERNS: [(&str, u32); 6] = [
     ("é日", 0),
     ("𝄞", 1),
@@ -190,7 +189,7 @@ fn words_far_apart_are_found_as_by_the_plain_searches(rt: HostRuntime) -> Result
     Ok(())
 }
 
-/// Whether the plain search of a row finds just the row's matches.
+/// Whether the plain search of a row finds exactly the row's matches.
 fn is_found_slowly<S: Automaton<Alloc = Global>>(alloc: Global, row: &Row) -> Result<bool> {
     let (_, search, patvals, text, expected) = *row;
     let patterns = in_units::<S>(alloc, patvals)?;

@@ -1,5 +1,5 @@
-//! Patterns and haystacks that are no text: what is found in each form, as it is and with rows of the states, and
-//! the listing of the patterns.
+//! Patterns and haystacks that are no text: what is found, with rows of states and without, and
+//! what is listed.
 
 use crate::automata::{Bytewise, finds_of_bytes};
 use crate::bytewise::{built_of_bytes, numbers};
@@ -15,7 +15,7 @@ use std::test::Fail;
 /// Patterns of bytes with their values.
 type BytePatvals = &'static [(&'static [u8], u32)];
 
-/// What a row shows, the search, the patterns, the listing of them, the haystack and the matches in it.
+/// What a row shows, the search, the patterns, their listing, the haystack and its matches.
 type Row = (
     &'static str,
     Search,
@@ -76,7 +76,7 @@ const ROWS: &[Row] = &[
     ),
 ];
 
-/// Whether these are the patterns that an automaton lists.
+/// Whether an automaton lists exactly these patterns.
 fn lists(alloc: Global, automaton: &Bytewise, expected: BytePatvals) -> Result<bool> {
     let mut patterns = automaton.iter(alloc)?;
     for (bytes, number) in expected {
@@ -93,14 +93,14 @@ fn lists(alloc: Global, automaton: &Bytewise, expected: BytePatvals) -> Result<b
     Ok(patterns.next().is_none())
 }
 
-/// Whether a row holds of an automaton that comes about this way.
+/// Whether a row holds for an automaton that is built in this way.
 fn holds(alloc: Global, way: Way, row: &Row) -> Result<bool> {
     let (_, search, patvals, listed, haystack, expected) = *row;
     let automaton = built_of_bytes(alloc, way, search.kind(), patvals)?;
     Ok(lists(alloc, &automaton, listed)? && finds_of_bytes(&automaton, search, haystack, expected))
 }
 
-/// Whether a row holds of an automaton with rows of its states.
+/// Whether a row holds for a search over rows of states.
 fn holds_with_rows(alloc: Global, row: &Row) -> Result<bool> {
     let (_, search, patvals, _, haystack, expected) = *row;
     let automaton = built_of_bytes(alloc, BUILT, search.kind(), patvals)?;
@@ -121,7 +121,7 @@ fn bytes_of_no_text_are_searched(rt: HostRuntime) -> Result<(), Fail> {
     Ok(())
 }
 
-/// Whether the plain search of a row finds just the row's matches.
+/// Whether the plain search of a row finds exactly the row's matches.
 fn is_found_slowly(alloc: Global, row: &Row) -> Result<bool> {
     let (_, search, patvals, _, haystack, expected) = *row;
     let mut patterns = Vec::new(alloc);

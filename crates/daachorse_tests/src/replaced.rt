@@ -9,7 +9,7 @@ use std::alloc::Global;
 use std::io::{self, ErrorKind, Write};
 use std::test::Fail;
 
-/// What a row shows, the kind, the patterns, the haystack, and what comes of it.
+/// What a row shows, the kind, the patterns, the haystack, and the text with replacements.
 type Row = (&'static str, MatchKind, Patvals, &'static str, &'static str);
 
 const NESTED: Patvals = &[("ab", 0), ("abcd", 1), ("cd", 2)];
@@ -45,7 +45,7 @@ const ROWS: &[Row] = &[
     ),
 ];
 
-/// What stands in the place of a match: a dash for 0, nothing for 1, and else the match itself.
+/// The replacement of a match: `-` for value 0, nothing for 1, and else the match itself.
 pub fn instead(found: Match<u32>, part: &[u8]) -> &[u8] {
     match found.value() {
         0 => b"-",
@@ -54,7 +54,7 @@ pub fn instead(found: Match<u32>, part: &[u8]) -> &[u8] {
     }
 }
 
-/// What stands in the place of a match in a text: a dash for 0, nothing for 1, and else the match itself.
+/// The replacement of a match in a text: `-` for value 0, nothing for 1, and else the match itself.
 pub fn instead_of_text(found: Match<u32>, part: &str) -> &str {
     match found.value() {
         0 => "-",
@@ -63,7 +63,7 @@ pub fn instead_of_text(found: Match<u32>, part: &str) -> &str {
     }
 }
 
-/// A writer that takes a byte at a time, and fails where there is no room.
+/// A writer that takes one byte a call, and fails if there is no room.
 #[derive(Drop)]
 struct Narrow {
     room: usize,
@@ -88,13 +88,13 @@ impl Write for Narrow {
     }
 }
 
-/// Whether a writer took as much of the text as it had room for, and failed where that is not all.
+/// Whether a writer took as much of the text as it had room for, and failed if that is not all.
 fn is_beginning(outcome: io::Result<()>, writer: &Narrow, room: usize, whole: &[u8]) -> bool {
     let taken = room.min(whole.len());
     writer.taken[..] == whole[..taken] && outcome.is_ok() == (taken == whole.len())
 }
 
-/// Whether an automaton writes what a row says, and a beginning of it where there is less room.
+/// Whether an automaton writes what a row says, up to the room of the writer.
 fn writes<S: Automaton>(alloc: Global, automaton: &S, row: &Row) -> bool {
     let (_, _, _, haystack, expected) = *row;
     for room in 0..expected.len() + 2 {
@@ -110,7 +110,7 @@ fn writes<S: Automaton>(alloc: Global, automaton: &S, row: &Row) -> bool {
     true
 }
 
-/// Whether an automaton returns what a row says, and writes it.
+/// Whether an automaton returns and writes what a row says.
 fn is_replaced<S: Automaton<Alloc = Global>>(alloc: Global, row: &Row) -> Result<bool> {
     let (_, kind, patvals, haystack, expected) = *row;
     let automaton = S::built(alloc, BUILT, kind, patvals)?;

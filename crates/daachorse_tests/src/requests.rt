@@ -1,5 +1,4 @@
-//! Want of memory, at each request of each call in turn: the answer is that error each time, and
-//! what stands afterwards is as it was.
+//! Runs out of memory at each allocation of each call: it returns that error and changes nothing.
 
 use crate::automata::{Automaton, Bytewise, Charwise, PATVALS, Plainly, made};
 use crate::expect_over;
@@ -9,13 +8,12 @@ use daachorse::{MatchKind, Result};
 use refusing::{Answer, Call, Refusing, each_request};
 use std::alloc::Global;
 
-/// A call that asks for memory, behind the build that it needs.
+/// A call that allocates, after the build that it needs.
 #[derive(Clone, Copy)]
 enum Request {
     Plainly(Plainly),
-    /// A build, and where the way says so a write and a read.
+    /// A build, followed by a write and a read if the way says so.
     Made(Way),
-    /// A build with many characters.
     ManyCharacters,
     Clone,
     CacheDepths,
@@ -23,7 +21,7 @@ enum Request {
     Replace,
 }
 
-/// The calls, each by its name for a kind.
+/// The calls, each with its name and a kind.
 const REQUESTS: [(&str, MatchKind, Request); 18] = [
     ("new", MatchKind::Standard, Request::Plainly(Plainly::New)),
     (
@@ -97,7 +95,7 @@ const REQUESTS: [(&str, MatchKind, Request); 18] = [
     ),
 ];
 
-/// The answer of a call that gave this.
+/// Whether a call with this outcome was right, refused or wrong.
 fn answer_of(outcome: &Result<bool>) -> Answer {
     match outcome {
         Ok(true) => Answer::Right,
@@ -106,7 +104,7 @@ fn answer_of(outcome: &Result<bool>) -> Answer {
     }
 }
 
-/// `PATVALS` as they are listed.
+/// `PATVALS` in the order of a listing.
 const LISTED: Patvals = &[("ab", 2), ("abc", 1), ("bcd", 0)];
 
 const MANY_CHARACTERS: Patvals = &[
@@ -116,7 +114,7 @@ const MANY_CHARACTERS: Patvals = &[
     ("いろはにほへとちりぬるをわかよたれそつねならむ", 3),
 ];
 
-/// Whether depths are cached; where they are refused, the automaton is as it was.
+/// Whether depths are cached. On an error the automaton must be unchanged.
 fn caches<S: Automaton>(automaton: &mut S) -> Result<bool> {
     let before = automaton.cloned()?;
     let outcome = automaton.cache();
@@ -128,7 +126,7 @@ fn caches<S: Automaton>(automaton: &mut S) -> Result<bool> {
     }
 }
 
-/// Whether a call on an automaton of `PATVALS` for this kind gives what it should.
+/// Whether a call on an automaton of `PATVALS` for this kind returns what it should.
 fn gives_of_built<S: Automaton>(
     alloc: S::Alloc,
     kind: MatchKind,
@@ -148,7 +146,7 @@ fn gives_of_built<S: Automaton>(
     }
 }
 
-/// Whether a call gives what it should.
+/// Whether a call returns what it should.
 fn gives<S: Automaton>(alloc: S::Alloc, kind: MatchKind, request: Request) -> Result<bool> {
     match request {
         Request::Plainly(how) => S::built_plainly(alloc, how)?.lists(alloc, LISTED),
@@ -164,7 +162,7 @@ fn gives<S: Automaton>(alloc: S::Alloc, kind: MatchKind, request: Request) -> Re
     }
 }
 
-/// A call over bytes for one kind.
+/// A call over bytes, for one kind.
 #[derive(Clone, Copy)]
 struct OverBytes {
     kind: MatchKind,
@@ -177,7 +175,7 @@ impl Call for OverBytes {
     }
 }
 
-/// A call over characters for one kind.
+/// A call over characters, for one kind.
 #[derive(Clone, Copy)]
 struct OverCharacters {
     kind: MatchKind,

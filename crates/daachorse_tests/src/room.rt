@@ -1,5 +1,5 @@
-//! Reads of automata whose bytes promise more than they hold: no room is asked for before the bytes for it
-//! are there.
+//! Reads of automata whose counts promise more than the bytes hold: nothing is allocated before the
+//! bytes for it are there.
 
 use crate::automata::{Automaton, Bytewise, Charwise};
 use crate::expect;
@@ -7,7 +7,7 @@ use daachorse::errors::DaachorseError;
 use refusing::Refusing;
 use std::alloc::Global;
 
-/// What promises too much, and the bytes up to there.
+/// The part whose count is too large, and the bytes up to there.
 type Row = (&'static str, &'static [u8]);
 
 const OVER_BYTES: [Row; 5] = [

@@ -1,4 +1,4 @@
-//! The worked rows, over both automata in each way in which these come about.
+//! Runs the test rows over both automata, made in each way.
 
 use crate::automata::{Automaton, Bytewise, Charwise, finds, made};
 use crate::expect;
@@ -11,7 +11,7 @@ use daachorse::{Match, MatchKind, Result};
 use std::alloc::Global;
 use std::test::Fail;
 
-/// Whether this is the first of the expected matches, or there is none as expected.
+/// Whether this is the first expected match, or `None` if none is expected.
 fn is_first(found: Option<Match<u32>>, expected: &[Found]) -> bool {
     match (found, expected.first()) {
         (Some(found), Some((start, end, value))) => {
@@ -22,7 +22,7 @@ fn is_first(found: Option<Match<u32>>, expected: &[Found]) -> bool {
     }
 }
 
-/// Whether the first match by the automaton's kind is the first of these, if that is the row's search.
+/// Whether `find` and `is_match` agree with these matches, if they run the row's search.
 fn finds_first<S: Automaton>(
     automaton: &S,
     search: Search,
@@ -38,7 +38,7 @@ fn finds_first<S: Automaton>(
     }
 }
 
-/// Whether a row holds of an automaton that comes about this way.
+/// Whether a row holds for an automaton that is made in this way.
 fn holds<S: Automaton>(alloc: S::Alloc, way: Way, row: &Row) -> Result<bool> {
     let (_, search, patvals, text, expected) = *row;
     let automaton: S = made(alloc, way, search.kind(), patvals)?;
@@ -49,14 +49,14 @@ fn holds<S: Automaton>(alloc: S::Alloc, way: Way, row: &Row) -> Result<bool> {
     )
 }
 
-/// Whether a row holds of an automaton that comes about this way, with rows of its states.
+/// Whether a row holds over rows of states, for an automaton that is made in this way.
 fn holds_with_rows<S: Automaton>(alloc: S::Alloc, way: Way, row: &Row) -> Result<bool> {
     let (_, search, patvals, text, expected) = *row;
     let automaton: S = made(alloc, way, search.kind(), patvals)?;
     automaton.finds_with_rows(alloc, search, text, expected)
 }
 
-/// Whether a row holds in each of these ways, and in the first of them with rows of the states.
+/// Whether a row holds in each of these ways, and over rows of states in the first of them.
 fn holds_in_each<S: Automaton>(alloc: S::Alloc, ways: &[Way], row: &Row) -> Result<bool> {
     for way in ways {
         if !holds::<S>(alloc, *way, row)? {
@@ -97,8 +97,8 @@ fn rows_hold_over_characters(rt: HostRuntime) -> Result<(), Fail> {
     Ok(())
 }
 
-/// Whether each form of a search, dropped behind the first match that is not one of these, finds another, and leaves
-/// the automaton as it was. A leftmost search has one form, and a search for one match at each end no stepper.
+/// Whether each form of a search, dropped at the first match that is not one of these, leaves the
+/// automaton unchanged. A leftmost search has one form, and the one without suffixes no stepper.
 fn is_left_behind<S: Automaton>(
     alloc: S::Alloc,
     automaton: &S,
@@ -119,7 +119,7 @@ fn is_left_behind<S: Automaton>(
     )
 }
 
-/// Whether searches of a row that are dropped past some of its matches leave the automaton as it was.
+/// Whether the searches of a row, dropped after some of its matches, leave the automaton unchanged.
 fn is_left<S: Automaton>(alloc: S::Alloc, row: &Row) -> Result<bool> {
     let (_, search, patvals, text, expected) = *row;
     let automaton: S = made(alloc, BUILT, search.kind(), patvals)?;
@@ -142,8 +142,8 @@ fn a_dropped_search_leaves_the_automaton(rt: HostRuntime) -> Result<(), Fail> {
     Ok(())
 }
 
-/// What a row shows, a search, patterns, a text, the matches in it, and the depths that a stepper tells
-/// before the first unit and behind each.
+/// What a row shows, a search, patterns, a text, its matches, and the depths that a stepper reports
+/// before the first unit and after each.
 type DepthRow = (
     &'static str,
     Search,
@@ -194,7 +194,6 @@ const DEPTH_ROWS: &[DepthRow] = &[
     ),
 ];
 
-/// Depths in characters.
 const DEPTH_ROW_OF_CHARACTERS: DepthRow = (
     "depths are counted in characters",
     Search::Overlapping,
@@ -204,7 +203,7 @@ const DEPTH_ROW_OF_CHARACTERS: DepthRow = (
     &[0, 1, 2, 1],
 );
 
-/// Whether a stepper tells no depths before they are cached, and then those of a row.
+/// Whether a stepper reports no depths until they are cached, and then those of a row.
 fn has_depths<S: Automaton>(alloc: S::Alloc, row: &DepthRow) -> Result<bool> {
     let (_, search, patvals, text, expected, depths) = *row;
     let mut automaton: S = made(alloc, BUILT, MatchKind::Standard, patvals)?;
@@ -226,7 +225,7 @@ fn depths_are_those_of_the_states(rt: HostRuntime) -> Result<(), Fail> {
     Ok(())
 }
 
-/// A search, patterns, what a text repeats before a word, and the word, which is the pattern with the value 0.
+/// A search, patterns, what a text repeats before a word, and the word, which has the value 0.
 type LongRow = (Search, Patvals, &'static str, &'static str);
 
 const TWO_WORDS: Patvals = &[("aria", 0), ("iris", 1)];
@@ -235,7 +234,7 @@ const LONG_ROWS: [LongRow; 6] = [
     (Search::Overlapping, TWO_WORDS, "x", "aria"),
     (Search::NoSuffix, TWO_WORDS, "x", "aria"),
     (Search::Standard, TWO_WORDS, "x", "aria"),
-    // Each third pair of bytes begins a window of the filter.
+    // Every third pair of bytes begins a window of the prefilter.
     (Search::Standard, TWO_WORDS, "arx", "aria"),
     (
         Search::Leftmost(MatchKind::LeftmostLongest),
@@ -251,7 +250,7 @@ const LONG_ROWS: [LongRow; 6] = [
     ),
 ];
 
-/// A text of so many bytes that repeat a filling, a word, and twenty bytes more.
+/// The first `count` characters of a repeated filling, then a word and twenty bytes more.
 fn long_text(alloc: Global, filling: &str, count: usize, word: &str) -> Result<String> {
     let mut text = String::new(alloc);
     for character in filling.chars().cycle().take(count) {
@@ -262,8 +261,8 @@ fn long_text(alloc: Global, filling: &str, count: usize, word: &str) -> Result<S
     Ok(text)
 }
 
-/// Whether a word is found behind each number of bytes below two hundred, so that it stands at each place of the
-/// rounds in which a filter reads.
+/// Whether a word is found after each number of bytes below 200, so that it begins at each place of
+/// a round of the prefilter.
 fn is_found_far<S: Automaton<Alloc = Global>>(
     alloc: Global,
     way: Way,

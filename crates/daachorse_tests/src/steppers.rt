@@ -1,5 +1,4 @@
-//! Clones of steppers, matches that stay while a stepper goes on, steppers that go on where others stood, and how
-//! much of a source is read.
+//! Clones of steppers, matches that outlive a step, resumed steppers, and reads of a source.
 
 ghost use Rattle.std.specs.Prelude.{◌≡◌, IfOk};
 ghost use Rattle.daachorse_model.specs.declared.MatchKind.TheVariants.{Standard};
@@ -12,14 +11,14 @@ use daachorse::{DoubleArrayAhoCorasick, Match, Result};
 use std::alloc::{AllocError, Global};
 use std::test::Fail;
 
-/// An automaton of ab and b.
+/// The automaton of ab and b.
 fn automaton(alloc: Global) -> Result<Bytewise>
     ensures { IfOk result (λ a. a.parts.kind ≡ Standard) }
 {
     DoubleArrayAhoCorasick::new(alloc, [b"ab".as_slice(), b"b"])
 }
 
-/// Whether a stepper that goes on where another stood tells the match of both bytes.
+/// Whether a resumed stepper reports the match of both bytes.
 fn is_resumed(automaton: &Bytewise) -> bool
     requires { automaton.now.parts.kind ≡ Standard }
 {
@@ -30,7 +29,7 @@ fn is_resumed(automaton: &Bytewise) -> bool
     are(resumed.matches().into_iter(), &[(0, 2, 0)])
 }
 
-/// Whether a stepper for all matches that goes on where another stood tells those of both bytes.
+/// Whether a resumed overlapping stepper reports the matches of both bytes.
 fn is_resumed_overlapping(automaton: &Bytewise) -> bool
     requires { automaton.now.parts.kind ≡ Standard }
 {
@@ -63,7 +62,7 @@ fn is_resumed_overlapping_over_rows(accelerated: &Accelerated<'_, u32>) -> bool
     are(resumed.matches(), &[(0, 2, 0), (1, 2, 1)])
 }
 
-/// Whether steppers over rows of states go on where others stood.
+/// Whether steppers over rows of states are resumed.
 fn are_resumed_over_rows(alloc: Global, automaton: &Bytewise) -> Result<bool>
     requires { automaton.now.parts.kind ≡ Standard }
 {
@@ -85,7 +84,7 @@ fn steppers_go_on_where_others_stood(rt: HostRuntime) -> Result<(), Fail> {
     Ok(())
 }
 
-/// Whether a clone of a stepper tells the match that ends with the byte that was read.
+/// Whether a clone of a stepper reports the match that ends with the last byte.
 fn is_cloned(automaton: &Bytewise) -> Result<bool, AllocError>
     requires { automaton.now.parts.kind ≡ Standard }
 {
@@ -95,7 +94,7 @@ fn is_cloned(automaton: &Bytewise) -> Result<bool, AllocError>
     Ok(cloned.is_some() && cloned == stepper.matches())
 }
 
-/// Whether a clone of a stepper for all matches tells the match that ends with the byte that was read.
+/// Whether a clone of an overlapping stepper reports the match that ends with the last byte.
 fn is_cloned_overlapping(automaton: &Bytewise) -> Result<bool, AllocError>
     requires { automaton.now.parts.kind ≡ Standard }
 {
@@ -104,7 +103,7 @@ fn is_cloned_overlapping(automaton: &Bytewise) -> Result<bool, AllocError>
     Ok(are(stepper.clone()?.matches(), &[(0, 1, 1)]))
 }
 
-/// Whether the matches that end with each of two bytes stay while the stepper goes on.
+/// Whether the matches of each of two bytes stay as they are while the stepper goes on.
 fn stay(automaton: &Bytewise) -> bool
     requires { automaton.now.parts.kind ≡ Standard }
 {
@@ -126,7 +125,7 @@ fn steppers_are_cloned_and_their_matches_stay(rt: HostRuntime) -> Result<(), Fai
     Ok(())
 }
 
-/// The first match in a source of bytes, and how many of them are left to the source behind it.
+/// The first match in a source of bytes, and how many bytes are left after it.
 fn first_of(automaton: &Bytewise, bytes: &[u8]) -> (Option<Match<u32>>, usize)
     requires { automaton.now.parts.kind ≡ Standard }
 {

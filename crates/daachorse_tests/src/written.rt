@@ -1,5 +1,4 @@
-//! Automata as they are written, by tables of their elements: what a build makes of patterns, and where a
-//! corpus moves it.
+//! Written automata, as tables of their elements: what a build makes, and where a corpus moves it.
 
 use crate::automata::{Bytewise, Charwise};
 use crate::expect;
@@ -18,10 +17,10 @@ fn push_numbers(bytes: &mut Vec<u8>, numbers: &[u32]) -> Result<(), AllocError> 
     Ok(())
 }
 
-/// An output: its value, its length, and the position of the next, 0 for none.
+/// An output: its value, its length, and the position of the next, or 0.
 type Output = [u32; 3];
 
-/// Appends the outputs and how many there are.
+/// Appends the number of outputs, and the outputs.
 fn push_outputs(bytes: &mut Vec<u8>, outputs: &[Output]) -> Result<(), AllocError> {
     push_numbers(bytes, &[u32::try_from(outputs.len()).unwrap_or(0)])?;
     for output in outputs {
@@ -30,19 +29,19 @@ fn push_outputs(bytes: &mut Vec<u8>, outputs: &[Output]) -> Result<(), AllocErro
     Ok(())
 }
 
-/// Appends what stands at the end: the standard kind, the number of states, and no filter.
+/// Appends the ending: the standard kind, the number of states, and no prefilter.
 fn push_ending(bytes: &mut Vec<u8>, num_states: u32) -> Result<(), AllocError> {
     bytes.push(0)?;
     push_numbers(bytes, &[num_states])?;
     Ok(bytes.push(0)?)
 }
 
-/// An element over bytes that is not vacant: its index, base, link and packed word, the position of its
-/// first output and its check.
+/// An element over bytes that is not vacant: its index, its base, its failure link, and the word
+/// that packs the position of its first output with its check.
 type Element = (u32, u32, u32, u32);
 
-/// Patterns over bytes, the corpora that a builder without a filter is given in turn, and what the
-/// automaton is written as: of 256 elements those that are not vacant, the outputs, and the number of states.
+/// Patterns over bytes, and what their automaton is written as. The builder has no prefilter and
+/// gets the corpora in turn. Of 256 elements those that are not vacant are listed.
 #[derive(Clone, Copy)]
 pub struct Row {
     pub shows: &'static str,
@@ -63,7 +62,7 @@ const ONE: Row = Row {
     num_states: 3,
 };
 
-/// The automaton of `ONE`, built with a corpus that has another group placed first.
+/// [`ONE`] built with a corpus, which places another group first.
 const ONE_BY_CORPUS: Row = Row {
     shows: "the heaviest group comes first",
     corpora: &[&[b"abx"]],
@@ -155,7 +154,7 @@ const ROWS: [Row; 10] = [
     },
 ];
 
-/// The words of the element at an index: its own if it is listed, else those of a vacant one.
+/// The words of the element at an index, vacant if it is not listed.
 fn words_at(elements: &[Element], index: u32) -> [u32; 3] {
     for (place, base, link, packed) in elements {
         if *place == index {
@@ -165,21 +164,21 @@ fn words_at(elements: &[Element], index: u32) -> [u32; 3] {
     [0, 0, index]
 }
 
-/// The bytes that a row says.
+/// The bytes of a row.
 pub fn bytes_of(alloc: Global, row: &Row) -> Result<Vec<u8>, AllocError> {
     let mut bytes = Vec::new(alloc);
     push_numbers(&mut bytes, &[256])?;
     for index in 0..256u32 {
         push_numbers(&mut bytes, &words_at(row.elements, index))?;
     }
-    // No states for leftmost searches, and no links of these.
+    // No states and no links for leftmost searches.
     push_numbers(&mut bytes, &[0, 0])?;
     push_outputs(&mut bytes, row.outputs)?;
     push_ending(&mut bytes, row.num_states)?;
     Ok(bytes)
 }
 
-/// The automaton of a row.
+/// Builds the automaton of a row.
 fn built(alloc: Global, row: &Row) -> Result<Bytewise> {
     let mut builder = DoubleArrayAhoCorasickBuilder::new().use_prefilter(false);
     for documents in row.corpora {
@@ -197,9 +196,9 @@ fn automata_over_bytes_have_their_bytes(rt: HostRuntime) -> Result<(), Fail> {
     Ok(())
 }
 
-/// Patterns over characters, the corpora that a builder without a filter is given in turn, and what the automaton is written as:
-/// the elements, each by its base, its check, its link and the position of its first output; how long the table of codes is,
-/// and the characters with codes; how many of them there are; the outputs, and the number of states.
+/// Patterns over characters, and what their automaton is written as. The builder has no prefilter
+/// and gets the corpora in turn. An element has a base, a check, a failure link and the position of
+/// its first output; `num_codes` is the length of the code table.
 #[derive(Clone, Copy)]
 pub struct TextRow {
     pub shows: &'static str,
@@ -226,13 +225,13 @@ pub const NO_CHARACTERS: TextRow = TextRow {
     num_states: 1,
 };
 
-/// The patterns ab and b over characters, whose texts ab, a and b have the elements 4, 2 and 3.
+/// The patterns ab and b over characters. The texts ab, a and b have the elements 4, 2 and 3.
 pub const TWO_TEXTS: TextRow = TextRow {
     shows: "a link and a list of outputs",
     patvals: &[("ab", 0), ("b", 1)],
     corpora: &[],
     elements: &[
-        [3, 1, 0, 0], // The root, whose base leads by the code 1 of a and by the code 0 of b.
+        [3, 1, 0, 0], // The root, whose base leads to a by code 1 and to b by code 0.
         [0, 1, 1, 0], // The dead state.
         [4, 0, 0, 0], // a
         [0, 0, 0, 1], // b
@@ -259,7 +258,7 @@ pub const CAPITAL_TEXT: TextRow = TextRow {
     num_states: 2,
 };
 
-/// Patterns whose last units have two groups. The root has the children a at 4 and c at 6.
+/// Patterns whose last characters form two groups. The root has the children a at 4 and c at 6.
 const TWO_GROUPS: TextRow = TextRow {
     shows: "two groups of one weight",
     patvals: &[("ab", 0), ("cd", 1)],
@@ -337,7 +336,7 @@ const TEXT_ROWS: [TextRow; 8] = [
     },
 ];
 
-/// The code of a character, or the number that stands for none.
+/// The code of a character, or the number for none.
 fn code_of(codes: &[(u32, u32)], character: u32) -> u32 {
     for (coded, code) in codes {
         if *coded == character {
@@ -347,7 +346,7 @@ fn code_of(codes: &[(u32, u32)], character: u32) -> u32 {
     u32::MAX
 }
 
-/// The bytes that a row over characters says.
+/// The bytes of a row over characters.
 pub fn bytes_of_text(alloc: Global, row: &TextRow) -> Result<Vec<u8>, AllocError> {
     let mut bytes = Vec::new(alloc);
     push_numbers(
@@ -367,7 +366,7 @@ pub fn bytes_of_text(alloc: Global, row: &TextRow) -> Result<Vec<u8>, AllocError
     Ok(bytes)
 }
 
-/// The automaton over characters of a row.
+/// Builds the automaton of a row over characters.
 fn built_of_text(alloc: Global, row: &TextRow) -> Result<Charwise> {
     let mut builder = CharwiseDoubleArrayAhoCorasickBuilder::new().use_prefilter(false);
     for documents in row.corpora {
@@ -385,20 +384,19 @@ fn automata_over_characters_have_their_bytes(rt: HostRuntime) -> Result<(), Fail
     Ok(())
 }
 
-/// An automaton over bytes of two words, with a filter if it is wanted.
+/// Builds the automaton of two words over bytes, with a prefilter if `filtered`.
 fn automaton_of_words(alloc: Global, filtered: bool) -> Result<Bytewise> {
     DoubleArrayAhoCorasickBuilder::new()
         .use_prefilter(filtered)
         .build(alloc, [b"aria".as_slice(), b"iris"])
 }
 
-/// The bytes of an automaton over bytes of two words, with a filter if it is wanted.
+/// The written automaton of two words over bytes, with a prefilter if `filtered`.
 pub fn bytes_of_words(alloc: Global, filtered: bool) -> Result<Vec<u8>> {
     automaton_of_words(alloc, filtered)?.serialize(alloc)
 }
 
-/// Whether an automaton is written in so many bytes, and each read of them gives it again and leaves a byte
-/// that stands behind them.
+/// Whether an automaton has `len` bytes, and each read returns it and leaves a byte that follows.
 fn is_read_again<V: Serializable + Copy + PartialEq + Drop>(
     alloc: Global,
     automaton: &DoubleArrayAhoCorasick<V>,
@@ -413,10 +411,9 @@ fn is_read_again<V: Serializable + Copy + PartialEq + Drop>(
     Ok(is_long && is_left && checked == *automaton && unchecked == *automaton)
 }
 
-/// Three letters.
 const LETTERS: [&[u8]; 3] = [b"a", b"b", b"c"];
 
-/// Whether automata of three letters are read again whose values take no byte, one byte, or one byte and nine.
+/// Whether automata with values of no byte, of one byte, and of one or nine bytes are read back.
 fn are_small_read_again(alloc: Global) -> Result<bool> {
     let bytes = DoubleArrayAhoCorasick::<u8>::new(alloc, LETTERS)?;
     let nothing = DoubleArrayAhoCorasick::<Empty>::new(alloc, LETTERS)?;

@@ -107,7 +107,7 @@ fn siblings_share_blocks(rt: HostRuntime) -> Result<(), Fail> {
 fn told(states: &States<u32>, byte: u8) -> Option<Match<u32>>
     requires { states.now.kind ≡ Standard }
 {
-    let mut stepper = FindStepper::new(states.standard(), &[]);
+    let mut stepper = FindStepper::new(states.standard(), &[], false);
     stepper.consume(byte);
     stepper.matches()
 }
@@ -116,7 +116,7 @@ fn told(states: &States<u32>, byte: u8) -> Option<Match<u32>>
 fn told_first(states: &States<u32>, byte: u8) -> Option<Match<u32>>
     requires { states.now.kind ≡ Standard }
 {
-    let mut stepper = FindOverlappingStepper::new(states.standard(), &[]);
+    let mut stepper = FindOverlappingStepper::new(states.standard(), &[], false);
     stepper.consume(byte);
     stepper.matches().next()
 }

@@ -56,12 +56,33 @@ pub fn scan_best<V: Copy, A: Automaton<V>, H: Haystack<A::Unit>, const FOLDED: b
 {
     let mut source = haystack.after(0);
     let mut state = automaton.root();
-    match scan_to_match::<V, A, H, FOLDED>(automaton, &mut source, &mut state, may_stop, turns) {
+    match scan_from_root::<V, A, H, FOLDED>(automaton, &mut source, &mut state, may_stop, turns) {
         Some(position) => {
             Scanned::Best(scan_on(automaton, haystack, source, state, position, turns))
         }
         None => Scanned::Clear(haystack.left() - source.left()),
     }
+}
+
+/// Scans by [`scan_to_match`], with a loop for each answer to whether it may stop.
+#[inline(always)]
+fn scan_from_root<V: Copy, A: Automaton<V>, H: Haystack<A::Unit>, const FOLDED: bool>(
+    automaton: &A,
+    source: &mut H,
+    state: &mut u32,
+    may_stop: bool,
+    turns: &mut Turns,
+) -> Option<NonZeroU32>
+    requires kind { IsLeftmostView (A.sees automaton.now) }
+    requires reached { (A.sees automaton.now).reached state.old }
+    requires root { (A.sees automaton.now).text state.old ≡ [] }
+    ensures reached { (A.sees automaton.now).reached state.new }
+    ensures scans { ScansToMatch A.Unit.width (A.sees automaton.now) (H.rest source.old) (H.rest source.new) ((A.sees automaton.now).text state.new) may_stop result turns.old turns.new }
+{
+    if may_stop {
+        return scan_to_match::<V, A, H, FOLDED>(automaton, source, state, true, turns);
+    }
+    scan_to_match::<V, A, H, FOLDED>(automaton, source, state, false, turns)
 }
 
 /// Reads on from the root to the first end of a match, and returns the position of its first

@@ -13,7 +13,7 @@ ghost use Rattle.daachorse_model.specs.Leftmost.{leftmost};
 ghost use Rattle.daachorse_model.specs.Matches.{matches_after, no_suffix, overlapping, standard, standard_after};
 ghost use Rattle.daachorse_model.specs.Prefixes.{HasPrefixes, IsListing};
 ghost use Rattle.daachorse_search.specs.Beginnings.{BeginsFrom, BeginsStepping, BeginsWith};
-ghost use Rattle.daachorse_search.specs.Filters.{IsSoundFor};
+ghost use Rattle.daachorse_haystack.specs.Filters.{IsSoundFor};
 ghost use Rattle.daachorse_prefilter.specs.Asked.{BeginsAsking, lets_pass};
 ghost use Rattle.daachorse_prefilter.specs.Beginnings.{may_begin};
 ghost use Rattle.daachorse_bytewise.specs.Automata.{HasDepths, MayFold, MayHaveFilter, dictionary_of, kind_of, states_of};
@@ -43,14 +43,14 @@ use daachorse_prefilter::prefilter::{Prefilter, clone_filter};
 use daachorse_prefilter::skipping::Skipping;
 use daachorse_search::find::{FindWalk, find_in};
 use daachorse_search::find_stepper::FindStanding;
-use daachorse_search::haystack::Bytes;
+use daachorse_haystack::haystack::Bytes;
 use daachorse_search::leftmost::LeftmostMatches;
 use daachorse_search::matches_from::MatchesFrom;
 use daachorse_search::overlapping::{
     NoSuffixWalk, OverlappingWalk, find_overlapping_in, find_overlapping_no_suffix_in,
 };
 use daachorse_search::overlapping_stepper::OverlappingStanding;
-use daachorse_search::source;
+use daachorse_haystack::source;
 use std::alloc::{Allocator, Global};
 use std::hash::{Hash, Hasher};
 use std::marker::Model;

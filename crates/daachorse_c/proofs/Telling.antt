@@ -8,8 +8,8 @@ use Rattle.daachorse_model.specs.Folding.{as_read, folded_unit}
 use Rattle.daachorse_model.specs.Matches.{at_each_end}
 use Rattle.daachorse_model.specs.Units.{byte_width}
 use Rattle.daachorse_model.proofs.StandardEnds.{standard-joined}
-use Rattle.daachorse_search.specs.Sources.{past_each_end}
-use Rattle.daachorse_search.proofs.SourceLaws.{at_each_end-split, past_each_end-append}
+use Rattle.daachorse_search.specs.Scans.{past_each_end}
+use Rattle.daachorse_search.proofs.ScanLaws.{at_each_end-split, past_each_end-append}
 use Rattle.daachorse_c.specs.declared.found.CMatch.{CMatch}
 use Rattle.daachorse_c.specs.Streams.{ending_with, found_in}
 use Rattle.daachorse_c.specs.Writes.{Writes, c_match}

@@ -16,10 +16,10 @@ pub use Rattle.daachorse_replacing.specs.ByKind
 pub use Rattle.daachorse_replacing.specs.Replaced
 pub use Rattle.daachorse_search.specs.Beginnings
 pub use Rattle.daachorse_search.specs.BestScans
-pub use Rattle.daachorse_search.specs.Filters
+pub use Rattle.daachorse_haystack.specs.Filters
 pub use Rattle.daachorse_search.specs.LeftmostSearches
 pub use Rattle.daachorse_search.specs.Matches
-pub use Rattle.daachorse_search.specs.Readings
+pub use Rattle.daachorse_haystack.specs.Readings
 pub use Rattle.daachorse_search.specs.Searches
 pub use Rattle.daachorse_search.specs.Stepwise
 pub use Rattle.daachorse_serializer.specs.Forms

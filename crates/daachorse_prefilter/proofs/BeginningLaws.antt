@@ -12,7 +12,7 @@ use Rattle.daachorse_model.specs.Units.{same_text}
 use Rattle.daachorse_model.proofs.Booleans.{both-true}
 use Rattle.daachorse_prefilter.specs.Filters.{Filter}
 use Rattle.daachorse_prefilter.proofs.PlaceLaws.{both_pass}
-use Rattle.daachorse_search.specs.Filters.{IsSoundFor}
+use Rattle.daachorse_haystack.specs.Filters.{IsSoundFor}
 use Rattle.daachorse_prefilter.specs.Beginnings.{AreBeginnings, MayTell, beginning_of, hash_of, has_mark, may_begin}
 use Rattle.daachorse_prefilter.specs.Asked.{lets_pass}
 use Rattle.daachorse_prefilter.proofs.SoundFilters.{sound_tested}

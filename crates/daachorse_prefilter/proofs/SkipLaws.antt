@@ -15,10 +15,10 @@ use Rattle.daachorse_model.proofs.Suffixes.{size-append, size-bytes}
 use Rattle.daachorse_prefilter.specs.Filters.{Filter}
 use Rattle.daachorse_prefilter.specs.Gates.{HasRecorded}
 use Rattle.daachorse_prefilter.specs.declared.prefilter.gate.PrefilterGate.{PrefilterGate}
-use Rattle.daachorse_search.specs.Filters.{IsNextPassing}
+use Rattle.daachorse_haystack.specs.Filters.{IsNextPassing}
 use Rattle.daachorse_prefilter.specs.Asked.{run_of}
 use Rattle.daachorse_prefilter.specs.Places.{IsFirstBoundary, IsFirstPlace}
-use Rattle.daachorse_text.proofs.TextLaws.{seam, size-chars}
+use Rattle.daachorse_haystack.proofs.TextLaws.{seam, size-chars}
 
 dropped : (h a b : List ℕ) → h ≡ a ++ b → drop (length a) h ≡ b
 dropped h a b parts = ap (drop (length a)) parts ∙ drop_at a b (length a) refl

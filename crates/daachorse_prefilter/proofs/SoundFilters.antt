@@ -6,7 +6,7 @@ use Rattle.daachorse_model.specs.Dictionary.{Dictionary}
 use Rattle.daachorse_prefilter.specs.Filters.{Filter, PassesKeys, admits}
 use Rattle.daachorse_prefilter.proofs.KeyLaws.{passes_before}
 use Rattle.daachorse_prefilter.proofs.PlaceLaws.{both_pass}
-use Rattle.daachorse_search.specs.Filters.{IsSoundFor}
+use Rattle.daachorse_haystack.specs.Filters.{IsSoundFor}
 use Rattle.daachorse_prefilter.specs.Asked.{lets_pass}
 use Rattle.daachorse_prefilter.specs.Beginnings.{may_begin}
 

@@ -4,7 +4,7 @@
 
 ghost use Rattle.std.specs.Prelude.{◌≡◌, ℕ, List, [], None, option_map, encode_utf8_all, IsTrue};
 ghost use Rattle.daachorse_prefilter.specs.Gates.{HasRecorded};
-ghost use Rattle.daachorse_search.specs.Filters.{IsNextPassing};
+ghost use Rattle.daachorse_haystack.specs.Filters.{IsNextPassing};
 ghost use Rattle.daachorse_model.specs.Units.{byte_width, char_width};
 ghost use Rattle.daachorse_prefilter.specs.Asked.{HasRecordedSkip, IsOpenWhilePaying, IsUnused, IsWorthAsking, lets_pass};
 ghost use Rattle.daachorse_prefilter.specs.Beginnings.{may_begin};
@@ -12,9 +12,9 @@ ghost use Rattle.daachorse_prefilter.specs.Beginnings.{may_begin};
 use crate::beginnings::Beginnings;
 use crate::places::{first_boundary, first_place};
 use crate::prefilter::{Prefilter, PrefilterGate};
-use daachorse_search::filter::Filter;
-use daachorse_search::haystack::{Bytes, Haystack};
-use daachorse_text::text::Text;
+use daachorse_haystack::filter::Filter;
+use daachorse_haystack::haystack::{Bytes, Haystack};
+use daachorse_haystack::text::Text;
 use std::alloc::{Allocator, Global};
 use std::marker::Model;
 

@@ -13,9 +13,9 @@ use Rattle.daachorse_model.proofs.Searches.{first_or}
 use Rattle.daachorse_model.proofs.StandardEnds.{IsResumed-begin, joined-from, standard_after-empty}
 use Rattle.daachorse_model.proofs.Suffixes.{size-append, IsSuffix-same, IsSuffix-cons, IsSuffix-of_push}
 use Rattle.daachorse_model.proofs.Lists.{nil_of}
-use Rattle.daachorse_search.specs.Sources.{past_each_end}
+use Rattle.daachorse_search.specs.Scans.{past_each_end}
 use Rattle.daachorse_search.specs.Afresh.{shifted, GoesOnAfresh}
-use Rattle.daachorse_search.proofs.SourceLaws.{at_each_end-split}
+use Rattle.daachorse_search.proofs.ScanLaws.{at_each_end-split}
 
 -- ---- matches further on
 

@@ -4,8 +4,8 @@ use Rattle.daachorse_model.specs.declared.Match.{Match}
 use Rattle.daachorse_model.specs.Dictionary.{Dictionary}
 use Rattle.daachorse_model.specs.Matches.{at_each_end, matches_after, overlapping, standard, standard_after}
 use Rattle.daachorse_model.proofs.StandardEnds.{standard-joined}
-use Rattle.daachorse_search.specs.Sources.{past_each_end}
-use Rattle.daachorse_search.proofs.SourceLaws.{at_each_end-split, past_each_end-append}
+use Rattle.daachorse_search.specs.Scans.{past_each_end}
+use Rattle.daachorse_search.proofs.ScanLaws.{at_each_end-split, past_each_end-append}
 
 pub at_each_end-push : {A : Type 0} (f : List ℕ → List A) (t : List ℕ) (u : ℕ) → at_each_end f [] (t ++ u ∷ []) ≡ at_each_end f [] t ++ f (t ++ u ∷ [])
 at_each_end-push f t u =

@@ -12,10 +12,10 @@ use Rattle.daachorse_model.proofs.Suffixes.{size-append}
 use Rattle.daachorse_model.proofs.Overlap.{take-append}
 use Rattle.daachorse_model.proofs.BestMatches.{leftmost_from-clear, leftmost_from-key, leftmost_from-empty, leftmost_from-last, leftmost_from-none, longest-best, none_starts-best}
 use Rattle.daachorse_search.specs.BestScans.{IsTheBest, IsClear}
-use Rattle.daachorse_search.specs.Filters.{PassesNoneBefore, PassesNowhere, count_passing}
+use Rattle.daachorse_haystack.specs.Filters.{PassesNoneBefore, PassesNowhere, count_passing}
 use Rattle.daachorse_search.specs.LeftmostSearches.{StandsBehind, SkipsUnit, IsSkipped, before_rest, leftmost_left, spare_turns, IsWithin, IsResting}
 use Rattle.daachorse_search.specs.Views.{AutomatonView}
-use Rattle.daachorse_search.proofs.FilterLaws.{none_starts-skipped, count_passing-more, count_passing-most, count_passing-none, count_passing-all}
+use Rattle.daachorse_haystack.proofs.FilterLaws.{none_starts-skipped, count_passing-more, count_passing-most, count_passing-none, count_passing-all}
 
 -- the units that come before the rest
 pub before_rest-is : (whole passed rest : List ℕ) → whole ≡ passed ++ rest → before_rest whole rest ≡ passed

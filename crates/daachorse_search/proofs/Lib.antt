@@ -1,13 +1,9 @@
 pub mod LookLaws
 pub mod WalkLaws
-pub mod SourceLaws
-pub mod ReadingLaws
-pub mod Cuts
+pub mod ScanLaws
 pub mod SearchLaws
 pub mod OverlappingLaws
 pub mod FindLaws
-pub mod HaystackLaws
-pub mod FilterLaws
 pub mod MatchesLaws
 pub mod RunLaws
 pub mod BestScanLaws

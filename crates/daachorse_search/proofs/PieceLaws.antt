@@ -13,8 +13,8 @@ use Rattle.daachorse_model.specs.Units.{size, byte_width}
 use Rattle.daachorse_model.proofs.Suffixes.{le_or_lt, size-append, size-bytes}
 use Rattle.daachorse_model.proofs.Overlap.{take-append}
 use Rattle.daachorse_search.specs.BestScans.{HasNoLongerKey}
-use Rattle.daachorse_search.specs.Sources.{past_each_end}
-use Rattle.daachorse_search.proofs.SourceLaws.{at_each_end-split, past_each_end-append}
+use Rattle.daachorse_search.specs.Scans.{past_each_end}
+use Rattle.daachorse_search.proofs.ScanLaws.{at_each_end-split, past_each_end-append}
 use Rattle.daachorse_search.specs.Pieces.{IsCutInPieces, ending_behind}
 use Rattle.daachorse_search.specs.Afresh.{shifted}
 

@@ -9,12 +9,12 @@ use Rattle.daachorse_model.specs.declared.Match.{Match}
 use Rattle.daachorse_model.specs.Folding.{as_read}
 use Rattle.daachorse_model.specs.Matches.{at_each_end}
 use Rattle.daachorse_search.specs.Beginnings.{BeginsFrom}
-use Rattle.daachorse_search.specs.Readings.{unit_as_read}
-use Rattle.daachorse_search.specs.Sources.{past_each_end}
+use Rattle.daachorse_haystack.specs.Readings.{unit_as_read}
+use Rattle.daachorse_search.specs.Scans.{past_each_end}
 use Rattle.daachorse_search.specs.Searches.{SourceProgress, Gave, Ended, GivesFrom, GivesNext}
-use Rattle.daachorse_search.specs.ByteSources.{Yields_append}
-use Rattle.daachorse_search.proofs.ReadingLaws.{units-as_read}
-use Rattle.daachorse_search.proofs.SourceLaws.{at_each_end-split, past_each_end-append}
+use Rattle.daachorse_haystack.specs.ByteSources.{Yields_append}
+use Rattle.daachorse_haystack.proofs.ReadingLaws.{units-as_read}
+use Rattle.daachorse_search.proofs.ScanLaws.{at_each_end-split, past_each_end-append}
 
 module _ {V A S U : Type 0} (found : A → List ℕ → List (Match V)) (steps : S → Option U → S → Type 0) (left : S → Count) (unit : U → ℕ) (width : ℕ → ℕ) where
   -- what a run from s gives, where its source then gives xs and ends

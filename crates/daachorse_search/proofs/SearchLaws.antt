@@ -7,12 +7,14 @@ use Rattle.std.specs.declared.num.NonZeroU32.{NonZeroU32}
 use Rattle.daachorse_model.specs.declared.Match.{Match}
 use Rattle.daachorse_model.specs.Folding.{folded_unit}
 use Rattle.daachorse_model.specs.Units.{size}
-use Rattle.daachorse_search.specs.Readings.{MayReadAsRead, unit_as_read}
-use Rattle.daachorse_search.specs.Sources.{IsReady, past_each_end, ScanGives}
+use Rattle.daachorse_haystack.specs.Readings.{MayReadAsRead, unit_as_read}
+use Rattle.daachorse_haystack.specs.Sources.{IsReady}
+use Rattle.daachorse_search.specs.Scans.{past_each_end, ScanGives}
 use Rattle.daachorse_search.specs.Searches.{SourceProgress, Gave, GivesFrom}
 use Rattle.daachorse_search.specs.Stepwise.{Stops}
-use Rattle.daachorse_search.proofs.ReadingLaws.{MayReadAsRead-kept}
-use Rattle.daachorse_search.proofs.SourceLaws.{Yields_push, past_each_end-append}
+use Rattle.daachorse_haystack.proofs.ReadingLaws.{MayReadAsRead-kept}
+use Rattle.daachorse_haystack.proofs.SourceLaws.{Yields_push}
+use Rattle.daachorse_search.proofs.ScanLaws.{past_each_end-append}
 
 -- the bound on what is left falls by at least what one more end has
 pub fewer_left : (most had left new : ℕ) → left < had → new ≤ most → new + most * left ≤ most * had

@@ -9,16 +9,16 @@ use Rattle.daachorse_model.specs.Best.{NoneStarts}
 use Rattle.daachorse_model.specs.Matches.{at_each_end}
 use Rattle.daachorse_model.proofs.Suffixes.{size-append}
 use Rattle.daachorse_search.specs.Afresh.{shifted, GoesOnAfresh}
-use Rattle.daachorse_search.specs.Filters.{IsSoundFor, IsNextPassing, PassesNoneBefore, PassesNowhere, count_passing}
+use Rattle.daachorse_haystack.specs.Filters.{IsSoundFor, IsNextPassing, PassesNoneBefore, PassesNowhere, count_passing}
 use Rattle.daachorse_search.specs.LeftmostSearches.{before_rest}
 use Rattle.daachorse_search.specs.Matches.{matches_left}
 use Rattle.daachorse_search.specs.Skipping.{matches_behind, HasNoPlace, SkipsTo, IsReading}
-use Rattle.daachorse_search.specs.Sources.{past_each_end}
+use Rattle.daachorse_search.specs.Scans.{past_each_end}
 use Rattle.daachorse_search.proofs.AfreshLaws.{shifted-none, shifted-twice}
-use Rattle.daachorse_search.proofs.FilterLaws.{none_starts-skipped, count_passing-more, count_passing-most, count_passing-none}
-use Rattle.daachorse_search.proofs.HaystackLaws.{ReadsTo}
+use Rattle.daachorse_haystack.proofs.FilterLaws.{none_starts-skipped, count_passing-more, count_passing-most, count_passing-none}
+use Rattle.daachorse_search.proofs.ScanLaws.{ReadsTo}
 use Rattle.daachorse_search.proofs.LeftmostLaws.{before_rest-is}
-use Rattle.daachorse_search.proofs.SourceLaws.{at_each_end-split}
+use Rattle.daachorse_search.proofs.ScanLaws.{at_each_end-split}
 
 -- units that take no byte are none
 pub nil_from_size : (width : ℕ → ℕ) → ((u : ℕ) → 1 ≤ width u) → (w : List ℕ) → size width w ≡ 0 → w ≡ []

@@ -4,7 +4,7 @@ use Rattle.daachorse_model.specs.declared.Match.{Match}
 use Rattle.daachorse_model.specs.Units.{size}
 use Rattle.daachorse_model.specs.Dictionary.{Dictionary}
 use Rattle.daachorse_model.specs.Best.{NoneStarts}
-use Rattle.daachorse_search.specs.Sources.{past_each_end}
+use Rattle.daachorse_search.specs.Scans.{past_each_end}
 
 -- the same match, so many bytes further on
 abbrev pub shifted : {V : Type 0} → ℕ → Match V → Match V

@@ -5,7 +5,7 @@ use Rattle.daachorse_model.specs.Units.{size}
 use Rattle.daachorse_model.specs.Dictionary.{Dictionary}
 use Rattle.daachorse_model.specs.Leftmost.{leftmost_from}
 use Rattle.daachorse_search.specs.BestScans.{HasNoLongerKey}
-use Rattle.daachorse_search.specs.Filters.{IsSoundFor, PassesNoneBefore, PassesNowhere, count_passing}
+use Rattle.daachorse_haystack.specs.Filters.{IsSoundFor, PassesNoneBefore, PassesNowhere, count_passing}
 use Rattle.daachorse_search.specs.Views.{AutomatonView, IsLeftmostView}
 
 -- the units passed end one unit behind the place, or at it where they are the whole haystack

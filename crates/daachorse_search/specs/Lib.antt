@@ -1,13 +1,10 @@
 pub mod Views
 pub mod Walks
 pub mod Nothing
-pub mod Sources
-pub mod ByteSources
-pub mod Readings
+pub mod Scans
 pub mod Stepwise
 pub mod Searches
 pub mod Finds
-pub mod Filters
 pub mod Matches
 pub mod BestScans
 pub mod LeftmostSearches

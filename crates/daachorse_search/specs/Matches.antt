@@ -4,7 +4,7 @@ use Rattle.std.specs.declared.num.NonZeroU32.{NonZeroU32}
 use Rattle.daachorse_core.specs.Outputs.{number}
 use Rattle.daachorse_model.specs.declared.Match.{Match}
 use Rattle.daachorse_model.specs.Units.{size}
-use Rattle.daachorse_search.specs.Sources.{past_each_end}
+use Rattle.daachorse_search.specs.Scans.{past_each_end}
 
 -- what callers see of a search with an automaton A and a filter F: the filter as it began, the whole haystack, the matches that are left, the units behind which the search goes on, those of them that it read since it last began at the root, the turns taken, and the number of matches given
 pub record Progress (V A F : Type 0) : Type 0 where

@@ -5,8 +5,8 @@ use Rattle.daachorse_model.specs.declared.Match.{Match}
 use Rattle.daachorse_model.specs.Units.{size}
 use Rattle.daachorse_model.specs.Matches.{matches_after, standard_after}
 use Rattle.std.specs.Option.{option_to_list}
-use Rattle.daachorse_search.specs.Readings.{unit_as_read}
-use Rattle.daachorse_search.specs.Sources.{past_each_end}
+use Rattle.daachorse_haystack.specs.Readings.{unit_as_read}
+use Rattle.daachorse_search.specs.Scans.{past_each_end}
 use Rattle.daachorse_search.specs.Views.{AutomatonView}
 
 -- what callers see of a search with an automaton A over a source S: whether units are folded, the units as they were read, the matches that end with them and are still to come, the turns taken, and the number of matches given

@@ -6,10 +6,10 @@ use Rattle.daachorse_model.specs.declared.Match.{Match}
 use Rattle.daachorse_model.specs.Units.{size}
 use Rattle.daachorse_model.specs.Dictionary.{Dictionary}
 use Rattle.daachorse_search.specs.Afresh.{shifted}
-use Rattle.daachorse_search.specs.Filters.{IsSoundFor, PassesNowhere, count_passing}
+use Rattle.daachorse_haystack.specs.Filters.{IsSoundFor, PassesNowhere, count_passing}
 use Rattle.daachorse_search.specs.LeftmostSearches.{before_rest}
 use Rattle.daachorse_search.specs.Matches.{matches_left}
-use Rattle.daachorse_search.specs.Sources.{past_each_end}
+use Rattle.daachorse_search.specs.Scans.{past_each_end}
 
 -- the matches that are left where a walk began behind the units before `read ++ rest`, and has read `read`
 abbrev pub matches_behind : {V : Type 0} → (ℕ → ℕ) → (List ℕ → List (Match V)) → List ℕ → List (Match V) → List ℕ → List ℕ → List (Match V)

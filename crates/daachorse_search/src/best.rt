@@ -6,7 +6,7 @@ ghost use Rattle.daachorse_search.specs.BestScans.{IsBestScan, IsScanning, IsThe
 ghost use Rattle.daachorse_search.specs.Views.{IsLeftmostView};
 
 use crate::automaton::Automaton;
-use crate::haystack::Haystack;
+use daachorse_haystack::haystack::Haystack;
 use crate::walk::step;
 use daachorse_core::edge_label::EdgeLabel;
 use daachorse_core::turns::Turns;

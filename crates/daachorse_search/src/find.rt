@@ -7,15 +7,15 @@ ghost use Rattle.daachorse_model.specs.Matches.{IsSinceMatch, standard};
 ghost use Rattle.daachorse_model.specs.Prefixes.{IsLong};
 ghost use Rattle.daachorse_model.specs.Units.{size};
 ghost use Rattle.daachorse_search.specs.Afresh.{GoesOnAfresh, shifted};
-ghost use Rattle.daachorse_search.specs.Filters.{IsSoundFor};
+ghost use Rattle.daachorse_haystack.specs.Filters.{IsSoundFor};
 ghost use Rattle.daachorse_search.specs.Finds.{IsFinding};
 ghost use Rattle.daachorse_search.specs.Views.{HasDepths, IsStandard};
 ghost use Rattle.daachorse_search.specs.Walks.{IsWalking};
 ghost use Rattle.daachorse_search.specs.Nothing.{HasPlace-none, first_from-none};
 
 use crate::automaton::Automaton;
-use crate::filter::Filter;
-use crate::haystack::Haystack;
+use daachorse_haystack::filter::Filter;
+use daachorse_haystack::haystack::Haystack;
 use crate::matches::Matches;
 use crate::stepwise::Stepwise;
 use crate::walk::{Standing, Walk};

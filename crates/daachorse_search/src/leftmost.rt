@@ -7,15 +7,15 @@ ghost use Rattle.std.specs.Prelude.{◌≡◌, ◌+◌, ◌*◌, ◌^◌, ◌<�
 ghost use Rattle.daachorse_model.specs.Units.{size};
 ghost use Rattle.daachorse_model.specs.Leftmost.{leftmost};
 ghost use Rattle.daachorse_search.specs.BestScans.{HasNoLongerKey};
-ghost use Rattle.daachorse_search.specs.Filters.{IsSoundFor, PassesNowhere, count_passing};
+ghost use Rattle.daachorse_haystack.specs.Filters.{IsSoundFor, PassesNowhere, count_passing};
 ghost use Rattle.daachorse_search.specs.LeftmostSearches.{SkipsUnit, StandsBehind, IsSkipped};
 ghost use Rattle.daachorse_search.specs.Matches.{GivesFirst};
 ghost use Rattle.daachorse_search.specs.Views.{IsLeftmostView};
 
 use crate::automaton::Automaton;
 use crate::best::{Scanned, scan_best};
-use crate::filter::Filter;
-use crate::haystack::Haystack;
+use daachorse_haystack::filter::Filter;
+use daachorse_haystack::haystack::Haystack;
 use daachorse_core::Match;
 use daachorse_core::edge_label::EdgeLabel;
 use daachorse_core::turns::{Seen, Turns};

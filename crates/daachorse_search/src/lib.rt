@@ -9,10 +9,8 @@
 pub mod automaton;
 pub mod best;
 pub mod ending_here;
-pub mod filter;
 pub mod find;
 pub mod find_stepper;
-pub mod haystack;
 pub mod leftmost;
 pub mod matches;
 pub mod matches_from;
@@ -21,7 +19,6 @@ pub mod overlapping_stepper;
 pub mod pieces;
 pub mod scan;
 pub mod search;
-pub mod source;
 pub mod step_unit;
 pub mod stepwise;
 pub mod view;

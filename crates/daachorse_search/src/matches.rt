@@ -7,12 +7,12 @@ ghost use Rattle.std.specs.Prelude.{◌≡◌, ◌≢◌, ◌+◌, ◌*◌, ◌^
 ghost use Rattle.daachorse_core.specs.Outputs.{number};
 ghost use Rattle.daachorse_model.specs.Units.{size};
 ghost use Rattle.daachorse_model.specs.Matches.{at_each_end};
-ghost use Rattle.daachorse_search.specs.Filters.{IsSoundFor, PassesNowhere, count_passing};
+ghost use Rattle.daachorse_haystack.specs.Filters.{IsSoundFor, PassesNowhere, count_passing};
 ghost use Rattle.daachorse_search.specs.Matches.{AreBoundedBehind, ReadsOn};
 ghost use Rattle.daachorse_search.specs.Skipping.{next_position, ComesTo, HasNoPlace, SkipsTo};
 
-use crate::filter::Filter;
-use crate::haystack::Haystack;
+use daachorse_haystack::filter::Filter;
+use daachorse_haystack::haystack::Haystack;
 use crate::stepwise::Stepwise;
 use daachorse_core::Match;
 use daachorse_core::turns::{Seen, Turns};

@@ -3,7 +3,7 @@
 ghost use Rattle.std.specs.Prelude.{◌≡◌, ◌+◌, ◌*◌, ℕ, [], length};
 
 use crate::search::Search;
-use crate::source::Source;
+use daachorse_haystack::source::Source;
 use crate::stepwise::Stepwise;
 use daachorse_core::Match;
 use daachorse_core::ascii_fold::AsciiFold;
@@ -67,7 +67,7 @@ where
     W::Unit: AsciiFold,
 {
     ghost use Rattle.std.specs.Iterator.{count_map};
-    ghost use Rattle.daachorse_search.specs.Readings.{MayReadAsRead};
+    ghost use Rattle.daachorse_haystack.specs.Readings.{MayReadAsRead};
     ghost use Rattle.daachorse_search.specs.Searches.{GivesFrom};
 
     type Item = Match<V>;

@@ -3,11 +3,12 @@
 ghost use Rattle.std.specs.Prelude.{◌≡◌, ℕ, IfSome, MatchOption};
 ghost use Rattle.std.specs.Iterator.{IsFinite};
 ghost use Rattle.daachorse_model.specs.Units.{size};
-ghost use Rattle.daachorse_search.specs.Readings.{unit_as_read};
-ghost use Rattle.daachorse_search.specs.Sources.{IsReady, ScanGives};
+ghost use Rattle.daachorse_haystack.specs.Readings.{unit_as_read};
+ghost use Rattle.daachorse_haystack.specs.Sources.{IsReady};
+ghost use Rattle.daachorse_search.specs.Scans.{ScanGives};
 ghost use Rattle.daachorse_search.specs.Stepwise.{Stops};
 
-use crate::source::Source;
+use daachorse_haystack::source::Source;
 use crate::stepwise::Stepwise;
 use daachorse_core::ascii_fold::AsciiFold;
 use std::num::NonZeroU32;

@@ -1,10 +1,10 @@
 //! A search in a source of units.
 
 ghost use Rattle.std.specs.Prelude.{◌≡◌, ◌+◌, ◌*◌, ℕ, [], length};
-ghost use Rattle.daachorse_search.specs.Readings.{unit_as_read};
+ghost use Rattle.daachorse_haystack.specs.Readings.{unit_as_read};
 
 use crate::scan::scan;
-use crate::source::Source;
+use daachorse_haystack::source::Source;
 use crate::stepwise::Stepwise;
 use daachorse_core::Match;
 use daachorse_core::ascii_fold::AsciiFold;
@@ -102,7 +102,7 @@ where
 {
     ghost use Rattle.std.specs.Iterator.{count_map};
     ghost use Rattle.daachorse_model.specs.Units.{size};
-    ghost use Rattle.daachorse_search.specs.Sources.{IsReady};
+    ghost use Rattle.daachorse_haystack.specs.Sources.{IsReady};
     ghost use Rattle.daachorse_search.specs.Searches.{GivesFrom};
 
     type Item = Match<V>;

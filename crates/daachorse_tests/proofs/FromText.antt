@@ -5,9 +5,9 @@ use Rattle.std.specs.Str.{IsUtf8}
 use Rattle.std.specs.Str.Iter.{bytes_rest, bytes_steps}
 use Rattle.std.specs.declared.str.Bytes.{Bytes}
 use Rattle.daachorse_model.specs.Units.{char_width, size}
-use Rattle.daachorse_search.specs.Readings.{MayReadAsRead}
-use Rattle.daachorse_text.specs.TextSources.{IsTextFrom}
-use Rattle.daachorse_text.proofs.DecodedRuns.{IsText-bytes}
+use Rattle.daachorse_haystack.specs.Readings.{MayReadAsRead}
+use Rattle.daachorse_haystack.specs.TextSources.{IsTextFrom}
+use Rattle.daachorse_haystack.proofs.DecodedRuns.{IsText-bytes}
 use Rattle.daachorse_tests.proofs.FirstReads.{from_first}
 
 abbrev pub may_read : Bytes → List ℕ → Type 0

@@ -13,8 +13,8 @@ use daachorse_search::matches::Matches;
 use daachorse_search::matches_from::MatchesFrom;
 use daachorse_search::overlapping::{NoSuffixWalk, OverlappingWalk};
 use daachorse_search::{find_stepper, overlapping_stepper};
-pub use daachorse_text::decoding::{CharWithEndOffsetIterator, Decoded};
-use daachorse_text::text::Text;
+pub use daachorse_haystack::decoding::{CharWithEndOffsetIterator, Decoded};
+use daachorse_haystack::text::Text;
 use std::alloc::Global;
 
 /// The iterator of `find_iter`: non-overlapping matches in a text, by earliest end.

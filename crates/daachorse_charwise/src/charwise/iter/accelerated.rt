@@ -10,8 +10,8 @@ use daachorse_search::matches::Matches;
 use daachorse_search::matches_from::MatchesFrom;
 use daachorse_search::overlapping::{NoSuffixWalk, OverlappingWalk};
 use daachorse_search::{find_stepper, overlapping_stepper};
-use daachorse_text::decoding::Decoded;
-use daachorse_text::text::Text;
+use daachorse_haystack::decoding::Decoded;
+use daachorse_haystack::text::Text;
 use std::alloc::Global;
 
 /// As [`super::FindSliceIterator`], over rows.

@@ -1,7 +1,7 @@
 -- A string's bytes are UTF-8 and their number fits in 64 bits, so that they can be decoded and the ends of their characters counted.
 use Rattle.std.proofs.Common.{◌∙◌, inl, ap, length, subst, sym, arith}
 use Rattle.std.specs.Str.{IsUtf8}
-use Rattle.daachorse_text.proofs.DecodedRuns.{IsText-known}
+use Rattle.daachorse_haystack.proofs.DecodedRuns.{IsText-known}
 use Rattle.daachorse_part_tests.proofs.texts.characters_with_ends.Goals as goal
 
 pub collect-requires-clause-can : goal.collect-requires-clause-can

@@ -2,7 +2,7 @@
 use Rattle.std.proofs.Common.{[], sym, ap, ◌∙◌, subst}
 use Rattle.daachorse_model.specs.Matches.{at_each_end}
 use Rattle.daachorse_model.proofs.StandardEnds.{standard-joined}
-use Rattle.daachorse_search.specs.Filters.{IsSoundFor}
+use Rattle.daachorse_haystack.specs.Filters.{IsSoundFor}
 use Rattle.daachorse_search.specs.Searches.{standard_found}
 use Rattle.daachorse_search.proofs.find.find_in.Goals as goal
 

@@ -2,9 +2,9 @@
 use Rattle.std.proofs.Common.{◌≡◌, ◌+◌, true, [], length, Option, None, refl, ap, ◌∙◌, subst, inl, inr, arith}
 use Rattle.std.proofs.lemmas.List.{nil_from_length}
 use Rattle.std.specs.Iterator.{YieldsFirstBy}
-use Rattle.daachorse_search.proofs.HaystackLaws.{ReadsTo-first, ReadsTo-one}
+use Rattle.daachorse_search.proofs.ScanLaws.{ReadsTo-first, ReadsTo-one}
 use Rattle.daachorse_search.proofs.SkipLaws.{SkipsTo-first, SkipsTo-places, SkipsTo-then, SkipsTo-ended, SkipsTo-reads, no_place_skipped, sound_on}
-use Rattle.daachorse_search.proofs.SourceLaws.{none_found}
+use Rattle.daachorse_search.proofs.ScanLaws.{none_found}
 use Rattle.daachorse_search.proofs.matches.read_past.Goals as goal
 
 pub units-init : goal.units-init

@@ -1,7 +1,7 @@
 -- One unit more was read and nothing was found, or a match ends behind it.
 use Rattle.std.proofs.Common.{◌≡◌, [], ap, arith, length}
-use Rattle.daachorse_search.proofs.HaystackLaws.{ReadsTo-one}
-use Rattle.daachorse_search.proofs.SourceLaws.{none_found}
+use Rattle.daachorse_search.proofs.ScanLaws.{ReadsTo-one}
+use Rattle.daachorse_search.proofs.ScanLaws.{none_found}
 use Rattle.daachorse_search.proofs.matches.read_units.Goals as goal
 
 pub returns-in-Some-advance : goal.returns-in-Some-advance

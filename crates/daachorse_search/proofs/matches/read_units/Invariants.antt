@@ -1,6 +1,6 @@
 -- The walk read all units up to what is left and found nothing at the end of any, and where there were none it stands where it stood; each round takes one unit off what is left.
 use Rattle.std.proofs.Common.{◌≡◌, ◌≤◌, [], length}
-use Rattle.daachorse_search.proofs.HaystackLaws.{ReadsTo}
+use Rattle.daachorse_search.proofs.ScanLaws.{ReadsTo}
 use Rattle.daachorse_search.proofs.matches.read_units.Given as goal
 
 abbrev pub invariant-units : goal.invariant-units

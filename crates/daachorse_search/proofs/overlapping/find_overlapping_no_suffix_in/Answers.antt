@@ -1,7 +1,7 @@
 -- The list is what the search gives end by end.
 use Rattle.std.proofs.Common.{[], sym, ap, ◌∙◌, subst}
 use Rattle.daachorse_model.specs.Matches.{at_each_end}
-use Rattle.daachorse_search.specs.Filters.{IsSoundFor}
+use Rattle.daachorse_haystack.specs.Filters.{IsSoundFor}
 use Rattle.daachorse_search.specs.Searches.{first_found}
 use Rattle.daachorse_search.proofs.overlapping.find_overlapping_no_suffix_in.Goals as goal
 

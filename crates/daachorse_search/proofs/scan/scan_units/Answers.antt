@@ -2,10 +2,11 @@
 use Rattle.std.proofs.Common.{◌≡◌, ℕ, ◌++◌, ◌∷◌, [], refl, sym, ap, ◌∙◌, subst, append-nil, arith}
 use Rattle.daachorse_model.specs.Units.{size}
 use Rattle.daachorse_model.proofs.Suffixes.{size-push}
-use Rattle.daachorse_search.specs.Readings.{unit_as_read}
-use Rattle.daachorse_search.specs.Sources.{IsReady}
-use Rattle.daachorse_search.proofs.ReadingLaws.{IsReady-as_it_is, ended_as_read, took_as_read}
-use Rattle.daachorse_search.proofs.SourceLaws.{IsReady-more, ScansOver-more, none_found}
+use Rattle.daachorse_haystack.specs.Readings.{unit_as_read}
+use Rattle.daachorse_haystack.specs.Sources.{IsReady}
+use Rattle.daachorse_haystack.proofs.ReadingLaws.{IsReady-as_it_is, ended_as_read, took_as_read}
+use Rattle.daachorse_haystack.proofs.SourceLaws.{IsReady-more}
+use Rattle.daachorse_search.proofs.ScanLaws.{ScansOver-more, none_found}
 use Rattle.daachorse_search.proofs.scan.scan_units.Goals as goal
 
 pub next_at-requires : goal.next_at-requires

@@ -2,8 +2,9 @@
 use Rattle.std.proofs.Common.{◌≡◌, List}
 use Rattle.std.specs.Iterator.{items_left}
 use Rattle.daachorse_model.specs.Units.{size}
-use Rattle.daachorse_search.specs.Readings.{unit_as_read}
-use Rattle.daachorse_search.specs.Sources.{IsReady, ScansOver}
+use Rattle.daachorse_haystack.specs.Readings.{unit_as_read}
+use Rattle.daachorse_haystack.specs.Sources.{IsReady}
+use Rattle.daachorse_search.specs.Scans.{ScansOver}
 use Rattle.daachorse_search.proofs.scan.scan_units.Given as goal
 
 abbrev pub invariant-units : goal.invariant-units

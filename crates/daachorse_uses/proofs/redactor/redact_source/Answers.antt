@@ -5,7 +5,7 @@ use Rattle.std.proofs.iter.Next.{Yields-more}
 use Rattle.std.proofs.lemmas.Result.{on_ok_weaker, on_err_weaker}
 use Rattle.std.specs.Io.KnownBytes.{Appends}
 use Rattle.std.specs.Iterator.Runs.{CountFits, SomeRun, WholeRun}
-use Rattle.daachorse_search.specs.ByteSources.{CountFits-after, CountFits-run}
+use Rattle.daachorse_haystack.specs.ByteSources.{CountFits-after, CountFits-run}
 use Rattle.daachorse_bytewise.specs.Automata.{dictionary_of}
 use Rattle.daachorse_replacing.specs.Replaced.{AppendsBeginning}
 use Rattle.daachorse_replacing.proofs.Sending.{AppendsBeginning-more}

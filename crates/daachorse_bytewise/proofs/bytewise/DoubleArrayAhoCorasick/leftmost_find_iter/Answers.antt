@@ -4,7 +4,7 @@ use Rattle.daachorse_model.specs.Folding.{as_read}
 use Rattle.daachorse_model.specs.Units.{byte_width}
 use Rattle.daachorse_model.specs.Leftmost.{leftmost}
 use Rattle.daachorse_search.proofs.BeginningLaws.{BeginsWith-along}
-use Rattle.daachorse_search.specs.Filters.{IsSoundFor}
+use Rattle.daachorse_haystack.specs.Filters.{IsSoundFor}
 use Rattle.daachorse_prefilter.specs.Asked.{Asked, BeginsAsking, lets_pass}
 use Rattle.daachorse_prefilter.specs.Beginnings.{may_begin}
 use Rattle.daachorse_bytewise_states.specs.Parts.{Parts, content}

@@ -1,7 +1,7 @@
 -- The filter passes at each pattern, and so wherever one is at the beginning of what is to come.
 use Rattle.std.proofs.Common.{Bool, List, Option, None, sym, ◌∙◌, subst}
 use Rattle.daachorse_prefilter.specs.Filters.{Filter}
-use Rattle.daachorse_search.specs.Filters.{IsSoundFor}
+use Rattle.daachorse_haystack.specs.Filters.{IsSoundFor}
 use Rattle.daachorse_prefilter.specs.Asked.{BeginsAsking, lets_pass}
 use Rattle.daachorse_prefilter.specs.Beginnings.{may_begin}
 use Rattle.daachorse_prefilter.proofs.SoundFilters.{sound_bytes}

@@ -2,7 +2,7 @@
 use Rattle.std.proofs.Common.{Bool, List, Option, None, sym, ◌∙◌, subst}
 use Rattle.std.specs.Prelude.{encode_utf8_all}
 use Rattle.daachorse_prefilter.specs.Filters.{Filter}
-use Rattle.daachorse_search.specs.Filters.{IsSoundFor}
+use Rattle.daachorse_haystack.specs.Filters.{IsSoundFor}
 use Rattle.daachorse_prefilter.specs.Asked.{BeginsAsking, lets_pass}
 use Rattle.daachorse_prefilter.specs.Beginnings.{may_begin}
 use Rattle.daachorse_prefilter.proofs.SoundFilters.{sound_chars}

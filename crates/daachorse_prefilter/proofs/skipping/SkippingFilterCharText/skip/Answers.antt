@@ -8,7 +8,7 @@ use Rattle.daachorse_model.specs.Units.{char_width}
 use Rattle.daachorse_prefilter.specs.declared.prefilter.gate.PrefilterGate.{PrefilterGate}
 use Rattle.daachorse_prefilter.specs.Gates.{HasRecorded}
 use Rattle.daachorse_prefilter.specs.Filters.{Filter, admits}
-use Rattle.daachorse_search.specs.Filters.{IsNextPassing}
+use Rattle.daachorse_haystack.specs.Filters.{IsNextPassing}
 use Rattle.daachorse_prefilter.specs.Asked.{Asked, lets_pass}
 use Rattle.daachorse_prefilter.specs.Beginnings.{may_begin}
 use Rattle.daachorse_prefilter.specs.Places.{IsFirstBoundary}

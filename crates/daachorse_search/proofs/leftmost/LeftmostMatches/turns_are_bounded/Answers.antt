@@ -2,7 +2,7 @@
 use Rattle.std.proofs.Common.{◌≡◌, ◌≤◌, ◌++◌, ℕ, true, List, subst, arith}
 use Rattle.std.proofs.lemmas.Grind.{common_steps}
 use Rattle.std.specs.Prelude.{count_by}
-use Rattle.daachorse_search.specs.Filters.{PassesNowhere, count_passing}
+use Rattle.daachorse_haystack.specs.Filters.{PassesNowhere, count_passing}
 use Rattle.daachorse_search.specs.LeftmostSearches.{place_at}
 use Rattle.daachorse_search.specs.Matches.{Progress}
 use Rattle.daachorse_search.proofs.LeftmostLaws.{passed_parts, passing_least, labelled_least}

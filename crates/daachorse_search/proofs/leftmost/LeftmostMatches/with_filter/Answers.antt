@@ -1,7 +1,7 @@
 -- A search begins with its filter as it came, at the beginning of its haystack.
 use Rattle.std.proofs.Common.{inl, [], ap, sym, ◌∙◌, subst, arith}
 use Rattle.daachorse_model.specs.Units.{size}
-use Rattle.daachorse_search.specs.Filters.{IsSoundFor}
+use Rattle.daachorse_haystack.specs.Filters.{IsSoundFor}
 use Rattle.daachorse_search.proofs.leftmost.LeftmostMatches.with_filter.Goals as goal
 
 pub invariant_of-result : goal.invariant_of-result

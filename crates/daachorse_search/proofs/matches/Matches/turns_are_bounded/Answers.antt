@@ -2,7 +2,7 @@
 use Rattle.std.proofs.Common.{◌≡◌, ◌≢◌, [], ◌+◌, ◌≤◌, ◌++◌, ℕ, true, List, length, refl, sym, ap, ◌∙◌, subst, append_assoc, arith}
 use Rattle.std.proofs.lemmas.Grind.{common_steps}
 use Rattle.daachorse_search.specs.Skipping.{next_position}
-use Rattle.daachorse_search.specs.Filters.{count_passing}
+use Rattle.daachorse_haystack.specs.Filters.{count_passing}
 use Rattle.daachorse_search.specs.Matches.{AreBoundedBehind, Progress}
 use Rattle.daachorse_search.proofs.SkipLaws.{passed_is, reading-bounded, reading-plain, reading-single}
 use Rattle.daachorse_search.proofs.matches.Matches.turns_are_bounded.Goals as goal

@@ -2,10 +2,10 @@
 use Rattle.std.proofs.Common.{◌+◌, ◌*◌, length, sym, subst}
 use Rattle.std.specs.Iterator.{MakesProgress, count_map}
 use Rattle.daachorse_model.specs.Units.{size}
-use Rattle.daachorse_search.specs.Readings.{unit_as_read}
+use Rattle.daachorse_haystack.specs.Readings.{unit_as_read}
 use Rattle.daachorse_search.specs.Searches.{GivesFrom, SourceProgress}
-use Rattle.daachorse_search.specs.Sources.{IsReady}
-use Rattle.daachorse_search.proofs.ReadingLaws.{MayReadAsRead-ready}
+use Rattle.daachorse_haystack.specs.Sources.{IsReady}
+use Rattle.daachorse_haystack.proofs.ReadingLaws.{MayReadAsRead-ready}
 use Rattle.daachorse_search.proofs.SearchLaws.{progress-as_read}
 use Rattle.daachorse_search.proofs.matches_from.MatchesFromIterator.next.Goals as goal
 

@@ -4,9 +4,10 @@ use Rattle.std.specs.declared.num.NonZeroU32.{NonZeroU32}
 use Rattle.daachorse_core.specs.Outputs.{number}
 use Rattle.daachorse_core.specs.Seen.{SeenUnits}
 use Rattle.daachorse_search.specs.declared.search.Search.TheInside.{Inside}
-use Rattle.daachorse_search.specs.Readings.{unit_as_read}
+use Rattle.daachorse_haystack.specs.Readings.{unit_as_read}
 use Rattle.daachorse_search.specs.Searches.{SourceProgress}
-use Rattle.daachorse_search.specs.Sources.{IsReady, ScanGives}
+use Rattle.daachorse_haystack.specs.Sources.{IsReady}
+use Rattle.daachorse_search.specs.Scans.{ScanGives}
 use Rattle.daachorse_model.specs.Units.{size}
 use Rattle.daachorse_search.proofs.AfreshLaws.{unshifted}
 use Rattle.daachorse_search.proofs.SearchLaws.{IsReached, IsReached-pending_at, IsReached-scan_at, Gave-reached, progress-reached}

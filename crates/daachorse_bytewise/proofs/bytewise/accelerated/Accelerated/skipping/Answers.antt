@@ -1,6 +1,6 @@
 -- The filter is sound for the patterns, and so are the marks of their beginnings.
 use Rattle.std.proofs.Common.{◌≡◌, Bool, List, Option, refl, ap, ◌∙◌, subst}
-use Rattle.daachorse_search.specs.Filters.{IsSoundFor}
+use Rattle.daachorse_haystack.specs.Filters.{IsSoundFor}
 use Rattle.daachorse_prefilter.specs.Asked.{BeginsAskingBoth, lets_pass}
 use Rattle.daachorse_prefilter.specs.Beginnings.{may_begin}
 use Rattle.daachorse_prefilter.proofs.BeginningLaws.{sound_asked}

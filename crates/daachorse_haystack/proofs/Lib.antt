@@ -1,0 +1,10 @@
+pub mod SourceLaws
+pub mod ReadingLaws
+pub mod Cuts
+pub mod HaystackLaws
+pub mod FilterLaws
+pub mod TextLaws
+pub mod FirstCharacters
+pub mod DecodingLaws
+pub mod DecodedRuns
+pub mod Places

@@ -1,3 +1,0 @@
-pub mod TextSources
-pub mod DecodedSources
-pub mod Midway

@@ -4,6 +4,7 @@ pub mod WrittenForms
 pub mod ReadForms
 pub mod Standings
 pub mod Accelerated
+pub use Rattle.daachorse_bytewise_states.specs.PartForms
 pub use Rattle.daachorse_bytewise_states.specs.StateRows
 pub use Rattle.daachorse_core.specs.Refusals
 pub use Rattle.daachorse_core.specs.Seen

@@ -39,18 +39,18 @@ use crate::bytewise::iter::{
 use crate::bytewise::states::States;
 use daachorse_core::MatchKind;
 use daachorse_core::errors::Result;
+use daachorse_haystack::haystack::Bytes;
+use daachorse_haystack::source;
 use daachorse_prefilter::prefilter::{Prefilter, clone_filter};
 use daachorse_prefilter::skipping::Skipping;
 use daachorse_search::find::{FindWalk, find_in};
 use daachorse_search::find_stepper::FindStanding;
-use daachorse_haystack::haystack::Bytes;
 use daachorse_search::leftmost::LeftmostMatches;
 use daachorse_search::matches_from::MatchesFrom;
 use daachorse_search::overlapping::{
     NoSuffixWalk, OverlappingWalk, find_overlapping_in, find_overlapping_no_suffix_in,
 };
 use daachorse_search::overlapping_stepper::OverlappingStanding;
-use daachorse_haystack::source;
 use std::alloc::{Allocator, Global};
 use std::hash::{Hash, Hasher};
 use std::marker::Model;

@@ -4,6 +4,7 @@ pub mod Frequencies
 pub mod WrittenForms
 pub mod ReadForms
 pub mod Accelerated
+pub use Rattle.daachorse_charwise_states.specs.PartForms
 pub use Rattle.daachorse_charwise_states.specs.StateRows
 pub use Rattle.daachorse_charwise_states.specs.Texts
 pub use Rattle.daachorse_core.specs.Refusals

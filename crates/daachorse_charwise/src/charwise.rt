@@ -42,6 +42,8 @@ use crate::charwise::iter::{
 use crate::charwise::states::States;
 use daachorse_core::MatchKind;
 use daachorse_core::errors::Result;
+use daachorse_haystack::decoding::Decoded;
+use daachorse_haystack::text::Text;
 use daachorse_prefilter::prefilter::{Prefilter, clone_filter};
 use daachorse_prefilter::skipping::Skipping;
 use daachorse_search::find::{FindWalk, find_in};
@@ -50,8 +52,6 @@ use daachorse_search::matches_from::MatchesFrom;
 use daachorse_search::overlapping::{
     NoSuffixWalk, OverlappingWalk, find_overlapping_in, find_overlapping_no_suffix_in,
 };
-use daachorse_haystack::decoding::Decoded;
-use daachorse_haystack::text::Text;
 use std::alloc::{Allocator, Global};
 use std::hash::{Hash, Hasher};
 use std::marker::Model;

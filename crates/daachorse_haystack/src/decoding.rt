@@ -7,8 +7,8 @@ ghost use Rattle.daachorse_model.specs.Units.{char_width};
 ghost use Rattle.daachorse_haystack.specs.Midway.{IsMidway, TakesInner};
 ghost use Rattle.daachorse_haystack.specs.TextSources.{IsText, GivesCharacter};
 
-use daachorse_core::ascii_fold::AsciiFold;
 use crate::source::Source;
+use daachorse_core::ascii_fold::AsciiFold;
 use std::marker::Model;
 
 /// The characters of the bytes that an iterator gives.

@@ -5,8 +5,8 @@ ghost use Rattle.std.specs.Str.{chars, IsUtf8};
 ghost use Rattle.daachorse_model.specs.Folding.{as_read};
 ghost use Rattle.daachorse_model.specs.Units.{size, char_width};
 
-use daachorse_core::ascii_fold::AsciiFold;
 use crate::haystack::Haystack;
+use daachorse_core::ascii_fold::AsciiFold;
 use std::marker::Model;
 
 /// The characters of a string, each read as it is or folded.

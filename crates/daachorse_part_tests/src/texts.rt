@@ -1,8 +1,8 @@
 //! Texts, where no contract speaks: the characters of a few of them.
 
 use crate::expect;
-use daachorse_haystack::haystack::{Bytes, Haystack};
 use daachorse_haystack::decoding::CharWithEndOffsetIterator;
+use daachorse_haystack::haystack::{Bytes, Haystack};
 use daachorse_haystack::text::Text;
 use std::alloc::{AllocError, Global};
 use std::test::Fail;

@@ -52,11 +52,8 @@ mod over_bytes {
 /// The names of the automaton over bytes with rows of its states.
 mod over_rows {
     pub use daachorse::bytewise::Accelerated;
-    pub use daachorse::bytewise::accelerated::Accelerated as ByItsModule;
-    pub use daachorse::bytewise::iter::accelerated::{
-        FindIterator, FindOverlappingIterator, FindOverlappingNoSuffixIterator,
-        FindOverlappingNoSuffixSliceIterator, FindOverlappingSliceIterator, FindOverlappingStepper,
-        FindOverlappingStepperIterator, FindSliceIterator, FindStepper, LeftmostFindIterator,
+    pub use daachorse::bytewise::accelerated::{
+        Accelerated as ByItsModule, RowedLeftmost, RowedStandard,
     };
 }
 

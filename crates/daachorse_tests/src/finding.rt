@@ -5,10 +5,10 @@ ghost use Rattle.std.specs.Prelude.{◌≡◌, []};
 
 use daachorse::Match;
 use daachorse_core::edge_label::EdgeLabel;
-use daachorse_search::automaton::Automaton;
 use daachorse_haystack::filter::Filter;
-use daachorse_search::find_stepper::FindStepper;
 use daachorse_haystack::haystack::Haystack;
+use daachorse_search::automaton::Automaton;
+use daachorse_search::find_stepper::FindStepper;
 use daachorse_search::leftmost::LeftmostMatches;
 use daachorse_search::matches::Matches;
 use daachorse_search::overlapping_stepper::FindOverlappingStepper;

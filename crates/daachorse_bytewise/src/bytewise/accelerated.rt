@@ -18,29 +18,35 @@ ghost use Rattle.daachorse_core.specs.Seen.{units};
 ghost use Rattle.daachorse_bytewise.specs.Automata.{dictionary_of, kind_of, states_of};
 ghost use Rattle.daachorse_bytewise.specs.Standings.{IsFindStandingOver, IsOverlappingStandingOver};
 
-use crate::bytewise::iter::accelerated::{
+use crate::bytewise::iter::{
     FindIterator, FindOverlappingIterator, FindOverlappingNoSuffixIterator,
     FindOverlappingNoSuffixSliceIterator, FindOverlappingSliceIterator, FindOverlappingStepper,
     FindSliceIterator, FindStepper, LeftmostFindIterator,
 };
 use crate::bytewise::{DoubleArrayAhoCorasick, states};
 use daachorse_core::errors::Result;
+use daachorse_haystack::haystack::Bytes;
+use daachorse_haystack::source;
 use daachorse_prefilter::beginnings::{BEGINNING, Beginnings, FEW_STATES};
 use daachorse_prefilter::skipping::Skipping;
 use daachorse_rows::rows::Rows;
 use daachorse_rows::view::RowView;
 use daachorse_search::find::{FindWalk, find_in};
 use daachorse_search::find_stepper::FindStanding;
-use daachorse_haystack::haystack::Bytes;
 use daachorse_search::leftmost::LeftmostMatches;
 use daachorse_search::matches_from::MatchesFrom;
 use daachorse_search::overlapping::{
     NoSuffixWalk, OverlappingWalk, find_overlapping_in, find_overlapping_no_suffix_in,
 };
 use daachorse_search::overlapping_stepper::OverlappingStanding;
-use daachorse_haystack::source;
 use std::alloc::{Allocator, Global};
 use std::marker::Model;
+
+/// The view of states with rows for standard searches.
+pub type RowedStandard<'a, V> = RowView<'a, V, states::Standard<'a, V>>;
+
+/// The view of states with rows for leftmost searches.
+pub type RowedLeftmost<'a, V> = RowView<'a, V, states::Leftmost<'a, V>>;
 
 /// A borrowed automaton with rows of the states near its root. Searches find the same matches.
 ///
@@ -152,7 +158,7 @@ impl<'a, V: Copy, A: Allocator> Accelerated<'a, V, A> {
 
     /// The states and their rows as standard searches see them.
     #[inline(always)]
-    fn standard<'s>(&'s self) -> RowView<'s, V, states::Standard<'s, V>>
+    fn standard<'s>(&'s self) -> RowedStandard<'s, V>
         requires { kind_of self.now.automaton ≡ Standard }
         ensures { result ≡ rowed_states self.entry.now }
     {
@@ -161,7 +167,7 @@ impl<'a, V: Copy, A: Allocator> Accelerated<'a, V, A> {
 
     /// The states and their rows as leftmost searches see them.
     #[inline(always)]
-    fn leftmost<'s>(&'s self) -> RowView<'s, V, states::Leftmost<'s, V>>
+    fn leftmost<'s>(&'s self) -> RowedLeftmost<'s, V>
         requires { kind_of self.now.automaton ≢ Standard }
         ensures { result ≡ rowed_states self.entry.now }
     {
@@ -182,7 +188,10 @@ impl<'a, V: Copy, A: Allocator> Accelerated<'a, V, A> {
     /// As [`DoubleArrayAhoCorasick::find_iter`], over rows.
     #[inline(always)]
     #[tactic(auto, using(daachorse_bytewise_states::proofs::DeadLaws::alive))]
-    pub fn find_iter<'s>(&'s self, haystack: &'s [u8]) -> FindSliceIterator<'s, V, A>
+    pub fn find_iter<'s>(
+        &'s self,
+        haystack: &'s [u8],
+    ) -> FindSliceIterator<'s, V, A, RowedStandard<'s, V>>
         requires { kind_of self.now.automaton ≡ Standard }
         ensures begins { BeginsWith (rowed_states self.entry.now) (as_read self.entry.now.automaton.folds haystack.entry.now)
             (standard byte_width (dictionary_of self.entry.now.automaton) (as_read self.entry.now.automaton.folds haystack.entry.now)) result }
@@ -201,7 +210,7 @@ impl<'a, V: Copy, A: Allocator> Accelerated<'a, V, A> {
     pub fn find_iter_from_iter<'s, P: Iterator<Item = u8>>(
         &'s self,
         haystack: P,
-    ) -> FindIterator<'s, P, V>
+    ) -> FindIterator<'s, P, V, RowedStandard<'s, V>>
         requires { kind_of self.now.automaton ≡ Standard }
         ensures { BeginsFrom (rowed_states self.entry.now) haystack
             (option_to_list (standard_after byte_width (dictionary_of self.entry.now.automaton) [])) self.entry.now.automaton.folds result }
@@ -219,7 +228,7 @@ impl<'a, V: Copy, A: Allocator> Accelerated<'a, V, A> {
     pub fn find_overlapping_iter<'s>(
         &'s self,
         haystack: &'s [u8],
-    ) -> FindOverlappingSliceIterator<'s, V, A>
+    ) -> FindOverlappingSliceIterator<'s, V, A, RowedStandard<'s, V>>
         requires { kind_of self.now.automaton ≡ Standard }
         ensures begins { BeginsWith (rowed_states self.entry.now) (as_read self.entry.now.automaton.folds haystack.entry.now)
             (overlapping byte_width (dictionary_of self.entry.now.automaton) (as_read self.entry.now.automaton.folds haystack.entry.now)) result }
@@ -238,7 +247,7 @@ impl<'a, V: Copy, A: Allocator> Accelerated<'a, V, A> {
     pub fn find_overlapping_iter_from_iter<'s, P: Iterator<Item = u8>>(
         &'s self,
         haystack: P,
-    ) -> FindOverlappingIterator<'s, P, V>
+    ) -> FindOverlappingIterator<'s, P, V, RowedStandard<'s, V>>
         requires { kind_of self.now.automaton ≡ Standard }
         ensures { BeginsFrom (rowed_states self.entry.now) haystack
             (matches_after byte_width (dictionary_of self.entry.now.automaton) []) self.entry.now.automaton.folds result }
@@ -256,7 +265,7 @@ impl<'a, V: Copy, A: Allocator> Accelerated<'a, V, A> {
     pub fn find_overlapping_no_suffix_iter<'s>(
         &'s self,
         haystack: &'s [u8],
-    ) -> FindOverlappingNoSuffixSliceIterator<'s, V, A>
+    ) -> FindOverlappingNoSuffixSliceIterator<'s, V, A, RowedStandard<'s, V>>
         requires { kind_of self.now.automaton ≡ Standard }
         ensures begins { BeginsWith (rowed_states self.entry.now) (as_read self.entry.now.automaton.folds haystack.entry.now)
             (no_suffix byte_width (dictionary_of self.entry.now.automaton) (as_read self.entry.now.automaton.folds haystack.entry.now)) result }
@@ -275,7 +284,7 @@ impl<'a, V: Copy, A: Allocator> Accelerated<'a, V, A> {
     pub fn find_overlapping_no_suffix_iter_from_iter<'s, P: Iterator<Item = u8>>(
         &'s self,
         haystack: P,
-    ) -> FindOverlappingNoSuffixIterator<'s, P, V>
+    ) -> FindOverlappingNoSuffixIterator<'s, P, V, RowedStandard<'s, V>>
         requires { kind_of self.now.automaton ≡ Standard }
         ensures { BeginsFrom (rowed_states self.entry.now) haystack
             (take 1 (matches_after byte_width (dictionary_of self.entry.now.automaton) [])) self.entry.now.automaton.folds result }
@@ -290,7 +299,10 @@ impl<'a, V: Copy, A: Allocator> Accelerated<'a, V, A> {
     /// As [`DoubleArrayAhoCorasick::leftmost_find_iter`], over rows.
     #[inline(always)]
     #[tactic(auto, using(daachorse_bytewise_states::proofs::DeadLaws::is_leftmost_automaton))]
-    pub fn leftmost_find_iter<'s>(&'s self, haystack: &'s [u8]) -> LeftmostFindIterator<'s, V, A>
+    pub fn leftmost_find_iter<'s>(
+        &'s self,
+        haystack: &'s [u8],
+    ) -> LeftmostFindIterator<'s, V, A, RowedLeftmost<'s, V>>
         requires { kind_of self.now.automaton ≢ Standard }
         ensures begins { BeginsWith (rowed_states self.entry.now) (as_read self.entry.now.automaton.folds haystack.entry.now)
             (leftmost byte_width (dictionary_of self.entry.now.automaton) (as_read self.entry.now.automaton.folds haystack.entry.now)) result }
@@ -306,7 +318,7 @@ impl<'a, V: Copy, A: Allocator> Accelerated<'a, V, A> {
     /// As [`DoubleArrayAhoCorasick::find_stepper`], over rows and without depths.
     #[inline(always)]
     #[tactic(auto, using(daachorse_bytewise_states::proofs::DeadLaws::alive))]
-    pub fn find_stepper<'s>(&'s self) -> FindStepper<'s, V>
+    pub fn find_stepper<'s>(&'s self) -> FindStepper<'s, V, RowedStandard<'s, V>>
         requires { kind_of self.now.automaton ≡ Standard }
         ensures { BeginsStepping (rowed_states self.entry.now) [] self.entry.now.automaton.folds
             (option_to_list (standard_after byte_width (dictionary_of self.entry.now.automaton) [])) result }
@@ -318,7 +330,9 @@ impl<'a, V: Copy, A: Allocator> Accelerated<'a, V, A> {
     /// As [`DoubleArrayAhoCorasick::find_overlapping_stepper`], over rows and without depths.
     #[inline(always)]
     #[tactic(auto, using(daachorse_bytewise_states::proofs::DeadLaws::alive))]
-    pub fn find_overlapping_stepper<'s>(&'s self) -> FindOverlappingStepper<'s, V>
+    pub fn find_overlapping_stepper<'s>(
+        &'s self,
+    ) -> FindOverlappingStepper<'s, V, RowedStandard<'s, V>>
         requires { kind_of self.now.automaton ≡ Standard }
         ensures { BeginsStepping (rowed_states self.entry.now) [] self.entry.now.automaton.folds
             (matches_after byte_width (dictionary_of self.entry.now.automaton) []) result }
@@ -329,7 +343,10 @@ impl<'a, V: Copy, A: Allocator> Accelerated<'a, V, A> {
 
     /// As [`DoubleArrayAhoCorasick::resume_find_stepper`], over these rows.
     #[inline(always)]
-    pub fn resume_find_stepper<'s>(&'s self, standing: FindStanding) -> FindStepper<'s, V>
+    pub fn resume_find_stepper<'s>(
+        &'s self,
+        standing: FindStanding,
+    ) -> FindStepper<'s, V, RowedStandard<'s, V>>
         requires kind { kind_of self.now.automaton ≡ Standard }
         requires stands { IsFindStandingOver (rowed_states self.now) standing }
         ensures automaton { result.automaton ≡ rowed_states self.entry.now }
@@ -348,7 +365,7 @@ impl<'a, V: Copy, A: Allocator> Accelerated<'a, V, A> {
     pub fn resume_find_overlapping_stepper<'s>(
         &'s self,
         standing: OverlappingStanding,
-    ) -> FindOverlappingStepper<'s, V>
+    ) -> FindOverlappingStepper<'s, V, RowedStandard<'s, V>>
         requires kind { kind_of self.now.automaton ≡ Standard }
         requires stands { IsOverlappingStandingOver (rowed_states self.now) standing }
         ensures automaton { result.automaton ≡ rowed_states self.entry.now }

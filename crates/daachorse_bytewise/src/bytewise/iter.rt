@@ -1,9 +1,9 @@
-//! The iterators and steppers of the automaton over bytes.
-
-pub mod accelerated;
+//! The iterators and steppers of the automaton over bytes. `S` is the view of its states that they
+//! walk through: the states themselves, or those with rows.
 
 use crate::bytewise::states::{Leftmost, Standard};
 pub use daachorse_bytewise_states::patterns::PatternIterator;
+use daachorse_haystack::{haystack, source};
 use daachorse_prefilter::skipping::Skipping;
 use daachorse_search::ending_here::EndingHere;
 use daachorse_search::find::FindWalk;
@@ -11,68 +11,69 @@ use daachorse_search::leftmost::LeftmostMatches;
 use daachorse_search::matches::Matches;
 use daachorse_search::matches_from::MatchesFrom;
 use daachorse_search::overlapping::{NoSuffixWalk, OverlappingWalk};
-use daachorse_search::{find_stepper, haystack, overlapping_stepper, source};
+use daachorse_search::{find_stepper, overlapping_stepper};
 use std::alloc::Global;
 
 /// The iterator of `find_iter`: non-overlapping matches in a slice, by earliest end.
-pub type FindSliceIterator<'a, V, A = Global> = Matches<
+pub type FindSliceIterator<'a, V, A = Global, S = Standard<'a, V>> = Matches<
     V,
-    FindWalk<V, Standard<'a, V>>,
+    FindWalk<V, S>,
     haystack::Bytes<'a>,
     Skipping<'a, A>,
 >;
 
 /// The iterator of `find_iter_from_iter`: non-overlapping matches in the bytes of a source.
-pub type FindIterator<'a, P, V> = MatchesFrom<V, FindWalk<V, Standard<'a, V>>, source::Bytes<P>>;
+pub type FindIterator<'a, P, V, S = Standard<'a, V>> = MatchesFrom<
+    V,
+    FindWalk<V, S>,
+    source::Bytes<P>,
+>;
 
 /// The iterator of `find_overlapping_iter`: all matches in a slice, by rising ends.
-pub type FindOverlappingSliceIterator<'a, V, A = Global> = Matches<
+pub type FindOverlappingSliceIterator<'a, V, A = Global, S = Standard<'a, V>> = Matches<
     V,
-    OverlappingWalk<V, Standard<'a, V>>,
+    OverlappingWalk<V, S>,
     haystack::Bytes<'a>,
     Skipping<'a, A>,
 >;
 
 /// The iterator of `find_overlapping_iter_from_iter`: all matches in the bytes of a source.
-pub type FindOverlappingIterator<'a, P, V> = MatchesFrom<
+pub type FindOverlappingIterator<'a, P, V, S = Standard<'a, V>> = MatchesFrom<
     V,
-    OverlappingWalk<V, Standard<'a, V>>,
+    OverlappingWalk<V, S>,
     source::Bytes<P>,
 >;
 
 /// The iterator of `find_overlapping_no_suffix_iter`: the longest match at each end in a slice.
-pub type FindOverlappingNoSuffixSliceIterator<'a, V, A = Global> = Matches<
+pub type FindOverlappingNoSuffixSliceIterator<'a, V, A = Global, S = Standard<'a, V>> = Matches<
     V,
-    NoSuffixWalk<V, Standard<'a, V>>,
+    NoSuffixWalk<V, S>,
     haystack::Bytes<'a>,
     Skipping<'a, A>,
 >;
 
 /// The iterator of `find_overlapping_no_suffix_iter_from_iter`: the longest match at each end.
-pub type FindOverlappingNoSuffixIterator<'a, P, V> = MatchesFrom<
+pub type FindOverlappingNoSuffixIterator<'a, P, V, S = Standard<'a, V>> = MatchesFrom<
     V,
-    NoSuffixWalk<V, Standard<'a, V>>,
+    NoSuffixWalk<V, S>,
     source::Bytes<P>,
 >;
 
 /// The iterator of `leftmost_find_iter`: non-overlapping matches in a slice, by earliest start.
-pub type LeftmostFindIterator<'a, V, A = Global> = LeftmostMatches<
+pub type LeftmostFindIterator<'a, V, A = Global, S = Leftmost<'a, V>> = LeftmostMatches<
     V,
-    Leftmost<'a, V>,
+    S,
     haystack::Bytes<'a>,
     Skipping<'a, A>,
 >;
 
 /// A search for non-overlapping matches that is given one byte at a time.
-pub type FindStepper<'a, V> = find_stepper::FindStepper<'a, V, Standard<'a, V>>;
+pub type FindStepper<'a, V, S = Standard<'a, V>> = find_stepper::FindStepper<'a, V, S>;
 
 /// A search for all matches that is given one byte at a time.
-pub type FindOverlappingStepper<'a, V> = overlapping_stepper::FindOverlappingStepper<
-    'a,
-    V,
-    Standard<'a, V>,
->;
+pub type FindOverlappingStepper<'a, V, S = Standard<'a, V>> =
+    overlapping_stepper::FindOverlappingStepper<'a, V, S>;
 
 /// The iterator of the stepper's `matches`: those that end with the bytes consumed, the longest
 /// first. It keeps its place while the stepper goes on.
-pub type FindOverlappingStepperIterator<'a, V> = EndingHere<V, Standard<'a, V>>;
+pub type FindOverlappingStepperIterator<'a, V, S = Standard<'a, V>> = EndingHere<V, S>;

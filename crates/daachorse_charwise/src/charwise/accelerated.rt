@@ -17,7 +17,7 @@ ghost use Rattle.daachorse_charwise_states.specs.StateRows.{HasFewCodes, HasNoRo
 ghost use Rattle.daachorse_charwise.specs.Accelerated.{HasRowsNear, IsAllRowsUnlessLarge, MayTellBeginnings, rowed_states};
 ghost use Rattle.daachorse_charwise.specs.Automata.{dictionary_of, kind_of, states_of};
 
-use crate::charwise::iter::accelerated::{
+use crate::charwise::iter::{
     FindIterator, FindOverlappingIterator, FindOverlappingNoSuffixIterator,
     FindOverlappingNoSuffixSliceIterator, FindOverlappingSliceIterator, FindOverlappingStepper,
     FindSliceIterator, FindStepper, LeftmostFindIterator,
@@ -25,6 +25,8 @@ use crate::charwise::iter::accelerated::{
 use crate::charwise::{CharwiseDoubleArrayAhoCorasick, states};
 use daachorse_charwise_states::for_rows::ForRows;
 use daachorse_core::errors::Result;
+use daachorse_haystack::decoding::Decoded;
+use daachorse_haystack::text::Text;
 use daachorse_prefilter::beginnings::{BEGINNING, Beginnings, FEW_STATES};
 use daachorse_prefilter::skipping::Skipping;
 use daachorse_rows::rows::Rows;
@@ -35,10 +37,14 @@ use daachorse_search::matches_from::MatchesFrom;
 use daachorse_search::overlapping::{
     NoSuffixWalk, OverlappingWalk, find_overlapping_in, find_overlapping_no_suffix_in,
 };
-use daachorse_haystack::decoding::Decoded;
-use daachorse_haystack::text::Text;
 use std::alloc::{Allocator, Global};
 use std::marker::Model;
+
+/// The view of states with rows for standard searches.
+pub type RowedStandard<'a, V> = RowView<'a, V, states::StandardForRows<'a, V>>;
+
+/// The view of states with rows for leftmost searches.
+pub type RowedLeftmost<'a, V> = RowView<'a, V, states::LeftmostForRows<'a, V>>;
 
 /// A borrowed automaton with rows of the states near its root. Searches find the same matches.
 ///
@@ -153,7 +159,7 @@ impl<'a, V: Copy, A: Allocator> Accelerated<'a, V, A> {
 
     /// The states and their rows as standard searches see them.
     #[inline(always)]
-    fn standard<'s>(&'s self) -> RowView<'s, V, states::StandardForRows<'s, V>>
+    fn standard<'s>(&'s self) -> RowedStandard<'s, V>
         requires { kind_of self.now.automaton ≡ Standard }
         ensures { result ≡ rowed_states self.entry.now }
     {
@@ -162,7 +168,7 @@ impl<'a, V: Copy, A: Allocator> Accelerated<'a, V, A> {
 
     /// The states and their rows as leftmost searches see them.
     #[inline(always)]
-    fn leftmost<'s>(&'s self) -> RowView<'s, V, states::LeftmostForRows<'s, V>>
+    fn leftmost<'s>(&'s self) -> RowedLeftmost<'s, V>
         requires { kind_of self.now.automaton ≢ Standard }
         ensures { result ≡ rowed_states self.entry.now }
     {
@@ -183,7 +189,10 @@ impl<'a, V: Copy, A: Allocator> Accelerated<'a, V, A> {
     /// As [`CharwiseDoubleArrayAhoCorasick::find_iter`], over rows.
     #[inline(always)]
     #[tactic(auto, using(daachorse_charwise_states::proofs::DeadLaws::alive))]
-    pub fn find_iter<'s>(&'s self, haystack: &'s str) -> FindSliceIterator<'s, V, A>
+    pub fn find_iter<'s>(
+        &'s self,
+        haystack: &'s str,
+    ) -> FindSliceIterator<'s, V, A, RowedStandard<'s, V>>
         requires { kind_of self.now.automaton ≡ Standard }
         ensures begins { BeginsWith (rowed_states self.entry.now) (as_read self.entry.now.automaton.folds (chars haystack.entry.now))
             (standard char_width (dictionary_of self.entry.now.automaton) (as_read self.entry.now.automaton.folds (chars haystack.entry.now))) result }
@@ -202,7 +211,7 @@ impl<'a, V: Copy, A: Allocator> Accelerated<'a, V, A> {
     pub fn find_iter_from_iter<'s, P: Iterator<Item = u8>>(
         &'s self,
         haystack: P,
-    ) -> FindIterator<'s, P, V>
+    ) -> FindIterator<'s, P, V, RowedStandard<'s, V>>
         requires { kind_of self.now.automaton ≡ Standard }
         ensures { BeginsFrom (rowed_states self.entry.now) haystack
             (option_to_list (standard_after char_width (dictionary_of self.entry.now.automaton) [])) self.entry.now.automaton.folds result }
@@ -220,7 +229,7 @@ impl<'a, V: Copy, A: Allocator> Accelerated<'a, V, A> {
     pub fn find_overlapping_iter<'s>(
         &'s self,
         haystack: &'s str,
-    ) -> FindOverlappingSliceIterator<'s, V, A>
+    ) -> FindOverlappingSliceIterator<'s, V, A, RowedStandard<'s, V>>
         requires { kind_of self.now.automaton ≡ Standard }
         ensures begins { BeginsWith (rowed_states self.entry.now) (as_read self.entry.now.automaton.folds (chars haystack.entry.now))
             (overlapping char_width (dictionary_of self.entry.now.automaton) (as_read self.entry.now.automaton.folds (chars haystack.entry.now))) result }
@@ -239,7 +248,7 @@ impl<'a, V: Copy, A: Allocator> Accelerated<'a, V, A> {
     pub fn find_overlapping_iter_from_iter<'s, P: Iterator<Item = u8>>(
         &'s self,
         haystack: P,
-    ) -> FindOverlappingIterator<'s, P, V>
+    ) -> FindOverlappingIterator<'s, P, V, RowedStandard<'s, V>>
         requires { kind_of self.now.automaton ≡ Standard }
         ensures { BeginsFrom (rowed_states self.entry.now) haystack
             (matches_after char_width (dictionary_of self.entry.now.automaton) []) self.entry.now.automaton.folds result }
@@ -257,7 +266,7 @@ impl<'a, V: Copy, A: Allocator> Accelerated<'a, V, A> {
     pub fn find_overlapping_no_suffix_iter<'s>(
         &'s self,
         haystack: &'s str,
-    ) -> FindOverlappingNoSuffixSliceIterator<'s, V, A>
+    ) -> FindOverlappingNoSuffixSliceIterator<'s, V, A, RowedStandard<'s, V>>
         requires { kind_of self.now.automaton ≡ Standard }
         ensures begins { BeginsWith (rowed_states self.entry.now) (as_read self.entry.now.automaton.folds (chars haystack.entry.now))
             (no_suffix char_width (dictionary_of self.entry.now.automaton) (as_read self.entry.now.automaton.folds (chars haystack.entry.now))) result }
@@ -276,7 +285,7 @@ impl<'a, V: Copy, A: Allocator> Accelerated<'a, V, A> {
     pub fn find_overlapping_no_suffix_iter_from_iter<'s, P: Iterator<Item = u8>>(
         &'s self,
         haystack: P,
-    ) -> FindOverlappingNoSuffixIterator<'s, P, V>
+    ) -> FindOverlappingNoSuffixIterator<'s, P, V, RowedStandard<'s, V>>
         requires { kind_of self.now.automaton ≡ Standard }
         ensures { BeginsFrom (rowed_states self.entry.now) haystack
             (take 1 (matches_after char_width (dictionary_of self.entry.now.automaton) [])) self.entry.now.automaton.folds result }
@@ -291,7 +300,10 @@ impl<'a, V: Copy, A: Allocator> Accelerated<'a, V, A> {
     /// As [`CharwiseDoubleArrayAhoCorasick::leftmost_find_iter`], over rows.
     #[inline(always)]
     #[tactic(auto, using(daachorse_charwise_states::proofs::DeadLaws::is_leftmost_automaton))]
-    pub fn leftmost_find_iter<'s>(&'s self, haystack: &'s str) -> LeftmostFindIterator<'s, V, A>
+    pub fn leftmost_find_iter<'s>(
+        &'s self,
+        haystack: &'s str,
+    ) -> LeftmostFindIterator<'s, V, A, RowedLeftmost<'s, V>>
         requires { kind_of self.now.automaton ≢ Standard }
         ensures begins { BeginsWith (rowed_states self.entry.now) (as_read self.entry.now.automaton.folds (chars haystack.entry.now))
             (leftmost char_width (dictionary_of self.entry.now.automaton) (as_read self.entry.now.automaton.folds (chars haystack.entry.now))) result }
@@ -307,7 +319,7 @@ impl<'a, V: Copy, A: Allocator> Accelerated<'a, V, A> {
     /// As [`CharwiseDoubleArrayAhoCorasick::find_stepper`], over rows and without depths.
     #[inline(always)]
     #[tactic(auto, using(daachorse_charwise_states::proofs::DeadLaws::alive))]
-    pub fn find_stepper<'s>(&'s self) -> FindStepper<'s, V>
+    pub fn find_stepper<'s>(&'s self) -> FindStepper<'s, V, RowedStandard<'s, V>>
         requires { kind_of self.now.automaton ≡ Standard }
         ensures { BeginsStepping (rowed_states self.entry.now) [] self.entry.now.automaton.folds
             (option_to_list (standard_after char_width (dictionary_of self.entry.now.automaton) [])) result }
@@ -320,7 +332,9 @@ impl<'a, V: Copy, A: Allocator> Accelerated<'a, V, A> {
     /// depths.
     #[inline(always)]
     #[tactic(auto, using(daachorse_charwise_states::proofs::DeadLaws::alive))]
-    pub fn find_overlapping_stepper<'s>(&'s self) -> FindOverlappingStepper<'s, V>
+    pub fn find_overlapping_stepper<'s>(
+        &'s self,
+    ) -> FindOverlappingStepper<'s, V, RowedStandard<'s, V>>
         requires { kind_of self.now.automaton ≡ Standard }
         ensures { BeginsStepping (rowed_states self.entry.now) [] self.entry.now.automaton.folds
             (matches_after char_width (dictionary_of self.entry.now.automaton) []) result }

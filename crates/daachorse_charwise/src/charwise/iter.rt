@@ -1,10 +1,12 @@
-//! The iterators and steppers of the automaton over characters.
+//! The iterators and steppers of the automaton over characters. `S` is the view of its states that
+//! they walk through: the states themselves, or those with rows.
 
-pub mod accelerated;
 mod patterns;
 
 pub use crate::charwise::iter::patterns::PatternIterator;
 use crate::charwise::states::{Leftmost, Standard};
+pub use daachorse_haystack::decoding::{CharWithEndOffsetIterator, Decoded};
+use daachorse_haystack::text::Text;
 use daachorse_prefilter::skipping::Skipping;
 use daachorse_search::ending_here::EndingHere;
 use daachorse_search::find::FindWalk;
@@ -13,69 +15,64 @@ use daachorse_search::matches::Matches;
 use daachorse_search::matches_from::MatchesFrom;
 use daachorse_search::overlapping::{NoSuffixWalk, OverlappingWalk};
 use daachorse_search::{find_stepper, overlapping_stepper};
-pub use daachorse_haystack::decoding::{CharWithEndOffsetIterator, Decoded};
-use daachorse_haystack::text::Text;
 use std::alloc::Global;
 
 /// The iterator of `find_iter`: non-overlapping matches in a text, by earliest end.
-pub type FindSliceIterator<'a, V, A = Global> = Matches<
+pub type FindSliceIterator<'a, V, A = Global, S = Standard<'a, V>> = Matches<
     V,
-    FindWalk<V, Standard<'a, V>>,
+    FindWalk<V, S>,
     Text<'a>,
     Skipping<'a, A>,
 >;
 
 /// The iterator of `find_iter_from_iter`: non-overlapping matches in the text of a source.
-pub type FindIterator<'a, P, V> = MatchesFrom<V, FindWalk<V, Standard<'a, V>>, Decoded<P>>;
+pub type FindIterator<'a, P, V, S = Standard<'a, V>> = MatchesFrom<V, FindWalk<V, S>, Decoded<P>>;
 
 /// The iterator of `find_overlapping_iter`: all matches in a text, by rising ends.
-pub type FindOverlappingSliceIterator<'a, V, A = Global> = Matches<
+pub type FindOverlappingSliceIterator<'a, V, A = Global, S = Standard<'a, V>> = Matches<
     V,
-    OverlappingWalk<V, Standard<'a, V>>,
+    OverlappingWalk<V, S>,
     Text<'a>,
     Skipping<'a, A>,
 >;
 
 /// The iterator of `find_overlapping_iter_from_iter`: all matches in the text of a source.
-pub type FindOverlappingIterator<'a, P, V> = MatchesFrom<
+pub type FindOverlappingIterator<'a, P, V, S = Standard<'a, V>> = MatchesFrom<
     V,
-    OverlappingWalk<V, Standard<'a, V>>,
+    OverlappingWalk<V, S>,
     Decoded<P>,
 >;
 
 /// The iterator of `find_overlapping_no_suffix_iter`: the longest match at each end in a text.
-pub type FindOverlappingNoSuffixSliceIterator<'a, V, A = Global> = Matches<
+pub type FindOverlappingNoSuffixSliceIterator<'a, V, A = Global, S = Standard<'a, V>> = Matches<
     V,
-    NoSuffixWalk<V, Standard<'a, V>>,
+    NoSuffixWalk<V, S>,
     Text<'a>,
     Skipping<'a, A>,
 >;
 
 /// The iterator of `find_overlapping_no_suffix_iter_from_iter`: the longest match at each end.
-pub type FindOverlappingNoSuffixIterator<'a, P, V> = MatchesFrom<
+pub type FindOverlappingNoSuffixIterator<'a, P, V, S = Standard<'a, V>> = MatchesFrom<
     V,
-    NoSuffixWalk<V, Standard<'a, V>>,
+    NoSuffixWalk<V, S>,
     Decoded<P>,
 >;
 
 /// The iterator of `leftmost_find_iter`: non-overlapping matches in a text, by earliest start.
-pub type LeftmostFindIterator<'a, V, A = Global> = LeftmostMatches<
+pub type LeftmostFindIterator<'a, V, A = Global, S = Leftmost<'a, V>> = LeftmostMatches<
     V,
-    Leftmost<'a, V>,
+    S,
     Text<'a>,
     Skipping<'a, A>,
 >;
 
 /// A search for non-overlapping matches that is given one character at a time.
-pub type FindStepper<'a, V> = find_stepper::FindStepper<'a, V, Standard<'a, V>>;
+pub type FindStepper<'a, V, S = Standard<'a, V>> = find_stepper::FindStepper<'a, V, S>;
 
 /// A search for all matches that is given one character at a time.
-pub type FindOverlappingStepper<'a, V> = overlapping_stepper::FindOverlappingStepper<
-    'a,
-    V,
-    Standard<'a, V>,
->;
+pub type FindOverlappingStepper<'a, V, S = Standard<'a, V>> =
+    overlapping_stepper::FindOverlappingStepper<'a, V, S>;
 
 /// The iterator of the stepper's `matches`: those that end with the characters consumed, the
 /// longest first. It keeps its place while the stepper goes on.
-pub type FindOverlappingStepperIterator<'a, V> = EndingHere<V, Standard<'a, V>>;
+pub type FindOverlappingStepperIterator<'a, V, S = Standard<'a, V>> = EndingHere<V, S>;

@@ -18,7 +18,6 @@ pub mod overlapping;
 pub mod overlapping_stepper;
 pub mod pieces;
 pub mod scan;
-pub mod search;
 pub mod step_unit;
 pub mod stepwise;
 pub mod view;

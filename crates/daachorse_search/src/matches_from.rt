@@ -2,12 +2,14 @@
 
 ghost use Rattle.std.specs.Prelude.{◌≡◌, ◌+◌, ◌*◌, ℕ, [], length};
 
-use crate::search::Search;
+use crate::scan::scan;
 use daachorse_haystack::source::Source;
 use crate::stepwise::Stepwise;
 use daachorse_core::Match;
 use daachorse_core::ascii_fold::AsciiFold;
-use std::marker::Model;
+use daachorse_core::turns::Seen;
+use std::marker::{Model, PhantomData};
+use std::num::NonZeroU32;
 
 /// The matches in a source of a search that goes one unit at a time, in order.
 ///
@@ -17,18 +19,42 @@ pub struct MatchesFrom<V: Copy, W: Stepwise<V>, S: Source<W::Unit>>
 where
     W::Unit: AsciiFold,
 {
-    search: Search<V, W, S>,
+    walk: W,
+    source: S,
+    // Whether each unit is folded.
+    folds: bool,
+    // The number of bytes read.
+    place: usize,
+    output: Option<NonZeroU32>,
+    // A copy of the walk's automaton, so that a field's type names what is borrowed.
+    automaton: W::Automaton,
+    // Counts the matches given.
+    seen: Seen,
+    of: PhantomData<V>,
 }
 
 impl<V: Copy, W: Stepwise<V>, S: Source<W::Unit>> Model for MatchesFrom<V, W, S>
 where
     W::Unit: AsciiFold,
 {
+    ghost use Rattle.daachorse_core.specs.Outputs.{number};
     ghost use Rattle.daachorse_search.specs.Searches.{SourceProgress};
+    ghost use Rattle.daachorse_search.specs.Stepwise.{StandsAt};
 
     ghost Value = { SourceProgress V W.Automaton S };
 
-    ghost view = { λ s. s.search };
+    ghost view = { λ s. record {
+      automaton = W.automaton s.walk;
+      source = s.source;
+      folds = s.folds;
+      read = W.read s.walk;
+      pending = W.given_from s.walk (number s.output);
+      turns = W.turns s.walk;
+      given = s.seen.given;
+      most = W.most_found (W.automaton s.walk);
+    } };
+
+    ghost invariant = { λ s. W.has_output s.walk (number s.output) × StandsAt W.Unit.width (W.read s.walk) s.place };
 }
 
 impl<V: Copy, W: Stepwise<V>, S: Source<W::Unit>> MatchesFrom<V, W, S>
@@ -48,8 +74,17 @@ where
         ensures given { result.given ≡ 0 }
         ensures most { result.most ≡ W.most_found (W.automaton walk) }
     {
+        let output = walk.begin();
+        let automaton = walk.walked();
         Self {
-            search: Search::new(walk, source, folds),
+            walk,
+            source,
+            folds,
+            place: 0,
+            output,
+            automaton,
+            seen: Seen::new(),
+            of: PhantomData,
         }
     }
 
@@ -58,7 +93,7 @@ where
     pub fn turns_are_bounded(&self)
         ensures { W.bounds self.now.automaton self.now.read self.now.turns }
     {
-        self.search.turns_are_bounded();
+        self.walk.turns_are_bounded();
     }
 }
 
@@ -80,6 +115,18 @@ where
 
     #[inline(always)]
     fn next(&mut self) -> Option<Match<V>> {
-        self.search.next()
+        let position = match self.output {
+            Some(position) => position,
+            None => scan(
+                &mut self.walk,
+                &mut self.source,
+                &mut self.place,
+                self.folds,
+            )?,
+        };
+        let (found, next) = self.walk.give(position, self.place);
+        self.output = next;
+        self.seen.give();
+        Some(found)
     }
 }

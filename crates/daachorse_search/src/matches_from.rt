@@ -1,13 +1,16 @@
 //! Standard searches in a source. What the source needs is their only condition.
 
 ghost use Rattle.std.specs.Prelude.{◌≡◌, ◌+◌, ◌*◌, ℕ, [], length};
+ghost use Rattle.std.specs.Iterator.{MakesProgress, count_map};
+ghost use Rattle.daachorse_haystack.specs.Readings.{MayReadAsRead};
+ghost use Rattle.daachorse_search.specs.Searches.{GivesFrom, SourceProgress};
 
 use crate::scan::scan;
-use daachorse_haystack::source::Source;
 use crate::stepwise::Stepwise;
 use daachorse_core::Match;
 use daachorse_core::ascii_fold::AsciiFold;
 use daachorse_core::turns::Seen;
+use daachorse_haystack::source::Source;
 use std::marker::{Model, PhantomData};
 use std::num::NonZeroU32;
 
@@ -95,29 +98,18 @@ where
     {
         self.walk.turns_are_bounded();
     }
-}
 
-impl<V: Copy, W: Stepwise<V>, S: Source<W::Unit>> Iterator for MatchesFrom<V, W, S>
-where
-    W::Unit: AsciiFold,
-{
-    ghost use Rattle.std.specs.Iterator.{count_map};
-    ghost use Rattle.daachorse_haystack.specs.Readings.{MayReadAsRead};
-    ghost use Rattle.daachorse_search.specs.Searches.{GivesFrom};
-
-    type Item = Match<V>;
-
-    ghost can_next = { λ s. MayReadAsRead S.may_read s.folds s.source s.read };
-
-    ghost next_gives = { GivesFrom W.found S.next_gives S.remaining W.Unit.unit W.Unit.width };
-
-    ghost remaining = { λ s. count_map (λ n. length s.pending + s.most * n) (S.remaining s.source) };
-
+    /// Does the work of `next`. `FOLDED` only makes a second copy of the loop.
     #[inline(always)]
-    fn next(&mut self) -> Option<Match<V>> {
+    fn next_match<const FOLDED: bool>(&mut self) -> Option<Match<V>>
+        requires { MayReadAsRead S.may_read self.old.folds self.old.source self.old.read }
+        ensures steps { GivesFrom W.found S.next_gives S.remaining W.Unit.unit W.Unit.width self.old result self.new }
+        ensures goes { MakesProgress (λ (s : SourceProgress V W.Automaton S). MayReadAsRead S.may_read s.folds s.source s.read)
+            (λ s. count_map (λ n. length s.pending + s.most * n) (S.remaining s.source)) self.old result self.new }
+    {
         let position = match self.output {
             Some(position) => position,
-            None => scan(
+            None => scan::<V, W, S, FOLDED>(
                 &mut self.walk,
                 &mut self.source,
                 &mut self.place,
@@ -128,5 +120,27 @@ where
         self.output = next;
         self.seen.give();
         Some(found)
+    }
+}
+
+impl<V: Copy, W: Stepwise<V>, S: Source<W::Unit>> Iterator for MatchesFrom<V, W, S>
+where
+    W::Unit: AsciiFold,
+{
+    type Item = Match<V>;
+
+    ghost can_next = { λ s. MayReadAsRead S.may_read s.folds s.source s.read };
+
+    ghost next_gives = { GivesFrom W.found S.next_gives S.remaining W.Unit.unit W.Unit.width };
+
+    ghost remaining = { λ s. count_map (λ n. length s.pending + s.most * n) (S.remaining s.source) };
+
+    #[inline(always)]
+    fn next(&mut self) -> Option<Match<V>> {
+        // Asked before the loop. The const parameter keeps the two copies of it from being merged.
+        if self.folds {
+            return self.next_match::<true>();
+        }
+        self.next_match::<false>()
     }
 }

@@ -8,15 +8,16 @@ ghost use Rattle.daachorse_haystack.specs.Sources.{IsReady};
 ghost use Rattle.daachorse_search.specs.Scans.{ScanGives};
 ghost use Rattle.daachorse_search.specs.Stepwise.{Stops};
 
-use daachorse_haystack::source::Source;
 use crate::stepwise::Stepwise;
 use daachorse_core::ascii_fold::AsciiFold;
+use daachorse_haystack::source::Source;
 use std::num::NonZeroU32;
 
 /// Reads on to the next output, and returns its position, or `None` at the end of the source.
 /// `place` is the offset in bytes after the units read. Each unit is folded if `folds` is set.
+/// `FOLDED` only makes a second copy of the loop.
 #[inline(always)]
-pub fn scan<V: Copy, W: Stepwise<V>, S: Source<W::Unit>>(
+pub fn scan<V: Copy, W: Stepwise<V>, S: Source<W::Unit>, const FOLDED: bool>(
     walk: &mut W,
     source: &mut S,
     place: &mut usize,
@@ -32,14 +33,14 @@ where
         (λ _. IsReady S.can_next S.next_gives S.remaining (unit_as_read folds W.Unit.unit) W.Unit.width source.new (size W.Unit.width (W.read walk.new))) }
     ensures stops { IfSome result (λ _. Stops W.automaton W.read W.found W.most_found W.has_output W.given_from walk.new result) }
 {
-    // Asked before the loop. The const parameter keeps the two copies of it from being merged.
-    if folds {
-        return scan_units::<V, W, S, true>(walk, source, place, true);
+    // Asked before the loop, so that each answer has a loop of its own.
+    if walk.finds_everywhere() {
+        return scan_units::<V, W, S, FOLDED>(walk, source, place, folds);
     }
-    scan_units::<V, W, S, false>(walk, source, place, false)
+    scan_units::<V, W, S, FOLDED>(walk, source, place, folds)
 }
 
-/// Does the work of [`scan`]. `FOLDED` only makes a second copy of the loop.
+/// Does the work of [`scan`].
 #[inline(always)]
 fn scan_units<V: Copy, W: Stepwise<V>, S: Source<W::Unit>, const FOLDED: bool>(
     walk: &mut W,

@@ -11,9 +11,9 @@ use Rattle.daachorse_search.specs.declared.matches_from.MatchesFrom.TheInside.{I
 use Rattle.daachorse_search.specs.Searches.{SourceProgress}
 use Rattle.daachorse_search.proofs.AfreshLaws.{unshifted}
 use Rattle.daachorse_search.proofs.SearchLaws.{IsReached, IsReached-pending, IsReached-scan, Gave-reached, progress-reached}
-use Rattle.daachorse_search.proofs.matches_from.MatchesFromIterator.next.Given as given
-use Rattle.daachorse_search.proofs.matches_from.MatchesFromIterator.next.Goals as goal
-use Rattle.daachorse_search.proofs.matches_from.MatchesFromIterator.next.Goals.{in-Some, in-None+in_ok-position-in-None}
+use Rattle.daachorse_search.proofs.matches_from.MatchesFrom.next_match.Given as given
+use Rattle.daachorse_search.proofs.matches_from.MatchesFrom.next_match.Goals as goal
+use Rattle.daachorse_search.proofs.matches_from.MatchesFrom.next_match.Goals.{in-Some, in-None+in_ok-position-in-None}
 
 -- the call came to outputs that are not all given
 reached : (g : given.Over) (c : goal.After-give g) → IsReached g.W.Stepwise.automaton g.W.Stepwise.read g.W.Stepwise.turns g.W.Stepwise.found g.W.Stepwise.most_found g.W.Stepwise.has_output g.W.Stepwise.given_from g.S.Iterator.can_next g.S.Iterator.next_gives g.S.Iterator.remaining (unit_as_read c.args.self.now.folds g.W.Unit.EdgeLabel.unit) g.W.Unit.EdgeLabel.width c.args.self.now c.match-self.self-inside.walk c.match-self.self-inside.source c.match-self.self-inside.folds c.match-self.self-inside.place c.match-self.self-inside.seen.given c.match-self.position.value

@@ -6,10 +6,10 @@ ghost use Rattle.daachorse_search.specs.BestScans.{IsBestScan, IsScanning, IsThe
 ghost use Rattle.daachorse_search.specs.Views.{IsLeftmostView};
 
 use crate::automaton::Automaton;
-use daachorse_haystack::haystack::Haystack;
 use crate::walk::step;
 use daachorse_core::edge_label::EdgeLabel;
 use daachorse_core::turns::Turns;
+use daachorse_haystack::haystack::Haystack;
 use std::num::NonZeroU32;
 
 /// A match that a scan found.

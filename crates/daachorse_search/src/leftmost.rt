@@ -14,11 +14,11 @@ ghost use Rattle.daachorse_search.specs.Views.{IsLeftmostView};
 
 use crate::automaton::Automaton;
 use crate::best::{Scanned, scan_best};
-use daachorse_haystack::filter::Filter;
-use daachorse_haystack::haystack::Haystack;
 use daachorse_core::Match;
 use daachorse_core::edge_label::EdgeLabel;
 use daachorse_core::turns::{Seen, Turns};
+use daachorse_haystack::filter::Filter;
+use daachorse_haystack::haystack::Haystack;
 use std::marker::{Model, PhantomData};
 use std::snapshot::Snapshot;
 

@@ -11,11 +11,11 @@ ghost use Rattle.daachorse_haystack.specs.Filters.{IsSoundFor, PassesNowhere, co
 ghost use Rattle.daachorse_search.specs.Matches.{AreBoundedBehind, ReadsOn};
 ghost use Rattle.daachorse_search.specs.Skipping.{next_position, ComesTo, HasNoPlace, SkipsTo};
 
-use daachorse_haystack::filter::Filter;
-use daachorse_haystack::haystack::Haystack;
 use crate::stepwise::Stepwise;
 use daachorse_core::Match;
 use daachorse_core::turns::{Seen, Turns};
+use daachorse_haystack::filter::Filter;
+use daachorse_haystack::haystack::Haystack;
 use std::marker::{Model, PhantomData};
 use std::num::NonZeroU32;
 use std::snapshot::Snapshot;

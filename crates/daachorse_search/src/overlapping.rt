@@ -12,13 +12,13 @@ ghost use Rattle.daachorse_search.specs.Walks.{IsFresh, IsWalking};
 ghost use Rattle.daachorse_search.specs.Nothing.{HasPlace-none, matches_from-none, first_from-none};
 
 use crate::automaton::Automaton;
-use daachorse_haystack::filter::Filter;
-use daachorse_haystack::haystack::Haystack;
 use crate::matches::Matches;
 use crate::stepwise::Stepwise;
 use crate::walk::{Standing, Walk};
 use daachorse_core::Match;
 use daachorse_core::turns::Turns;
+use daachorse_haystack::filter::Filter;
+use daachorse_haystack::haystack::Haystack;
 use std::alloc::AllocError;
 use std::marker::Model;
 use std::num::NonZeroU32;

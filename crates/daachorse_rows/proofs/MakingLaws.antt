@@ -14,7 +14,7 @@ use Rattle.daachorse_model.proofs.Lists.{below_or_at}
 use Rattle.daachorse_core.specs.declared.turns.Look.TheVariants.{Fail}
 use Rattle.daachorse_search.specs.Views.{AutomatonView, HasFirst, SeesLook, Steps}
 use Rattle.daachorse_search.proofs.LookLaws.{StepEnds-link, StepEnds-long}
-use Rattle.daachorse_rows.specs.Rows.{state_at, RowTable, IsSlotEntry, StandsFor, IsSlotOf, AreSlots, StepLeads, AreLabels, AreRows, Stands, AreChosen, AreClosed, AreCovered, AreStepped, Covers, IsEntry, IsSlot, AreWritten, MayClose, TellsStep, row_places, stands_by}
+use Rattle.daachorse_rows.specs.Rows.{state_at, RowTable, IsChoice, IsSlotEntry, StandsFor, IsSlotOf, AreSlots, StepLeads, AreLabels, AreRows, Stands, AreChosen, AreClosed, AreStepped, ClosesOrFills, Covers, HaveRows, IsEntry, IsSlot, AreWritten, MayClose, TellsStep, row_places, stands_by}
 use Rattle.daachorse_rows.proofs.RowLaws.{place_behind, row_below, state_at-slot}
 
 -- what is read of a list to which one item was added
@@ -107,31 +107,44 @@ even_place k width half is = (k * half, ap (λ n. k * n) is ∙ sym (mul_assoc k
 pub fits_rows : (n w : ℕ) → n ≤ 63168 / w → n * w ≤ 63168
 fits_rows n w few = omega (arith, mul-le n w (63168 / w) w few (omega arith), div-mul-le_self 63168 w)
 
--- a state has a row where its place is before the end of the rows, and its slot holds that place
-pub IsEntry-outside : (order : List ℕ) (width base x s : ℕ) (quiet : Type 0) → Stands order width base x s → base ≡ length order * width → 0 < width → base ≤ x → IsEntry order width base s quiet 65535
-IsEntry-outside order width base x s quiet (inl (k, below, is, at)) end wide behind = absurd (omega (arith, is, end, behind, mul-add-lt k width 0 (length order) below wide))
-IsEntry-outside order width base x s quiet (inr (is, none)) end wide behind = inl (refl, none)
+pub HaveRows-chosen : {V : Type 0} (view : AutomatonView V) (order homes : List ℕ) (width n : ℕ) → width ≡ row_places n → AreChosen view order homes (63168 / width) → HaveRows order homes width
+HaveRows-chosen view order homes width n is chosen = record {
+  homes = chosen.homes;
+  own = chosen.own;
+  few = fits_rows (length order) width chosen.few;
+  wide = omega (arith, is);
+  even = ((n + 6) / 4, is);
+}
 
-pub Stands-even : (order : List ℕ) (width base x s half : ℕ) → Stands order width base x s → width ≡ half * 2 → x < base → (h : ℕ) × (x ≡ h * 2)
-Stands-even order width base x s half (inl (k, below, is, at)) even before = let h = even_place k width half even in (h.0, is ∙ h.1)
-Stands-even order width base x s half (inr (is, none)) even before = absurd (omega (arith, is, before))
+-- a state has a row where its place is before the end of the rows, and its slot holds that place
+pub IsEntry-outside : (order : List ℕ) (width x s : ℕ) (quiet : Type 0) → Stands order width x s → 0 < width → length order * width ≤ x → IsEntry order width s quiet 65535
+IsEntry-outside order width x s quiet (inl (k, below, is, at)) wide behind = absurd (omega (arith, is, behind, mul-add-lt k width 0 (length order) below wide))
+IsEntry-outside order width x s quiet (inr (is, none)) wide behind = inl (refl, none)
+
+pub IsEntry-inside : (order homes : List ℕ) (width x s v : ℕ) (quiet : Type 0) → HaveRows order homes width → Stands order width x s → x < length order * width → ((v ≡ x) × quiet) ⊎ (v ≡ x + 1) → IsEntry order width s quiet v
+IsEntry-inside order homes width x s v quiet rows place before is = inr (record { place = x; stands_for = place; inside = before; even = even place; is = is })
+  where
+    even : Stands order width x s → (h : ℕ) × (x ≡ h * 2)
+    even (inl (k, below, at, state)) = let h = even_place k width rows.even.0 rows.even.1 in (h.0, at ∙ h.1)
+    even (inr (at, none)) = absurd (omega (arith, at, before))
 
 module _ {V : Type 0} (view : AutomatonView V) (order homes : List ℕ) (most : ℕ) where
   -- there are none yet
-  pub AreChosen-none : order ≡ [] → ((s : ℕ) → s < length homes → slice_index homes s ≡ 65535) → ((s : ℕ) → view.reached s → s + 65536 < 4294967296) → AreChosen view order homes most
-  AreChosen-none none_chosen no_homes fits = record {
+  pub AreChosen-none : order ≡ [] → ((s : ℕ) → s < length homes → slice_index homes s ≡ 65535) → most < 65535 → ((s : ℕ) → view.reached s → (s < length homes) × (s + 65536 < 2 ^ 32)) → AreChosen view order homes most
+  AreChosen-none none_chosen no_homes room small = record {
     states = λ k below. absurd (omega (arith, below, ap length none_chosen));
     homes = λ s below some. absurd (some (no_homes s below));
     own = λ k below. absurd (omega (arith, below, ap length none_chosen));
     few = omega (arith, ap length none_chosen);
-    fits = fits;
+    room = room;
+    inside = λ s there. (small s there).0;
+    fits = λ s there. (small s there).1;
   }
 
   module _ (h : AreChosen view order homes most) where
     -- one state more, whose row is the next
-    pub AreChosen-more : (s : ℕ) (order' homes' : List ℕ) → order' ≡ order ++ s ∷ [] → homes' ≡ slice_set homes s (length order) → s < length homes → slice_index homes s ≡ 65535 → length order < most → most < 65535 → view.reached s
-        → AreChosen view order' homes' most
-    AreChosen-more s order' homes' is at within none less room there = record {
+    pub AreChosen-more : (s : ℕ) (order' homes' : List ℕ) → order' ≡ order ++ s ∷ [] → homes' ≡ slice_set homes s (length order) → slice_index homes s ≡ 65535 → length order < most → view.reached s → AreChosen view order' homes' most
+    AreChosen-more s order' homes' is at none less there = record {
       states = λ k below.
           elim (below_or_at k (length order) (count k below)) [
             | inl old ↦ let P : ℕ → Type 0 = λ x. view.reached x in subst P (sym (read-old order order' s k is old)) (h.states k old)
@@ -153,13 +166,15 @@ module _ {V : Type 0} (view : AutomatonView V) (order homes : List ℕ) (most : 
                 let kept = h.own k old in let here = read-old order order' s k is old in (
                   omega (arith, kept.0, here, ap length at, length-set homes s (length order)),
                   ap (slice_index homes') here ∙ (other_home (slice_index order k) (taken k old) ∙ kept.1),
-                  omega (arith, old, less, room),
+                  omega (arith, old, less, h.room),
                 )
             | inr new ↦
                 let here = read-new order order' s k is new in
-                (omega (arith, within, here, ap length at, length-set homes s (length order)), ap (slice_index homes') here ∙ (own_home ∙ sym new), omega (arith, new, less, room))
+                (omega (arith, h.inside s there, here, ap length at, length-set homes s (length order)), ap (slice_index homes') here ∙ (own_home ∙ sym new), omega (arith, new, less, h.room))
           ];
       few = omega (arith, size, less);
+      room = h.room;
+      inside = λ q here. omega (arith, h.inside q here, ap length at, length-set homes s (length order));
       fits = h.fits;
     }
       where
@@ -170,25 +185,22 @@ module _ {V : Type 0} (view : AutomatonView V) (order homes : List ℕ) (most : 
         count k below = omega (arith, below, size)
 
         own_home : slice_index homes' s ≡ length order
-        own_home = ap (λ l. slice_index l s) at ∙ get_or-set_same homes s (length order) 0 within
+        own_home = ap (λ l. slice_index l s) at ∙ get_or-set_same homes s (length order) 0 (h.inside s there)
 
         other_home : (q : ℕ) → q ≢ s → slice_index homes' q ≡ slice_index homes q
         other_home q other = ap (λ l. slice_index l q) at ∙ get_or-set_other homes s q (length order) 0 other
 
         taken : (k : ℕ) → k < length order → slice_index order k ≢ s
-        taken k below same = omega (arith, none, ap (slice_index homes) same, (h.own k below).1, below, less, room)
-
-    pub AreChosen-small : (width s : ℕ) → length order * width ≤ 63168 → view.reached s → length order * width + s < 2 ^ 32
-    AreChosen-small width s few there = omega (arith, h.fits s there, few)
+        taken k below same = omega (arith, none, ap (slice_index homes) same, (h.own k below).1, below, less, h.room)
 
 -- ---- the slots of the rows
 
-module _ {V : Type 0} (unit_width : ℕ → ℕ) (view : AutomatonView V) (stands : ℕ → ℕ → Type 0) (labels order : List ℕ) (width base : ℕ) where
+module _ {V : Type 0} (unit_width : ℕ → ℕ) (view : AutomatonView V) (stands : ℕ → ℕ → Type 0) (labels order : List ℕ) (width : ℕ) where
   abbrev Slot : ℕ → ℕ → ℕ → Type 0
-  Slot k c v = IsSlot unit_width view stands labels order width base k c v
+  Slot k c v = IsSlot unit_width view stands labels order width k c v
 
   abbrev Written : ℕ → ℕ → List ℕ → Type 0
-  Written k c top = AreWritten unit_width view stands labels order width base k c top
+  Written k c top = AreWritten unit_width view stands labels order width k c top
 
   pub AreWritten-none : (top : List ℕ) → top ≡ [] → Written 0 0 top
   AreWritten-none top none = record {
@@ -237,18 +249,18 @@ module _ {V : Type 0} (unit_width : ℕ → ℕ) (view : AutomatonView V) (stand
           subst P (sym (same (2 * (k * width) + suc (suc c')) (omega (arith, h.size, before)))) (h.row (suc (suc c')) before) label byte slot
 
   -- the entry of a state whose outputs begin at this position
-  entry_first : (s v : ℕ) (o : Option NonZeroU32) → IsEntry order width base s (o ≡ None) v → HasFirst unit_width view s o → IsEntry order width base s (HasFirst unit_width view s None) v
+  entry_first : (s v : ℕ) (o : Option NonZeroU32) → IsEntry order width s (o ≡ None) v → HasFirst unit_width view s o → IsEntry order width s (HasFirst unit_width view s None) v
   entry_first s v o (inl outside) at = inl outside
   entry_first s v o (inr entry) at =
       let P : Option NonZeroU32 → Type 0 = λ p. HasFirst unit_width view s p in
-      inr (IsSlotEntry-map base (λ x. Stands order width base x s) (λ x. Stands order width base x s) (o ≡ None) (HasFirst unit_width view s None) v entry (λ x there. there) (λ none. subst P none at))
+      inr (IsSlotEntry-map (length order * width) (λ x. Stands order width x s) (λ x. Stands order width x s) (o ≡ None) (HasFirst unit_width view s None) v entry (λ x there. there) (λ none. subst P none at))
 
   module _ (named : AreLabels view.content stands labels) where
     foreign : (label unit : ℕ) → label < 638 → stands label unit → ((k : ℕ) → k < length labels → slice_index labels k ≢ label) → IsForeign view.content unit
     foreign label unit byte coded none = elim (named.all label unit byte coded) [ inl f ↦ f | inr at ↦ absurd (none at.0 at.1 at.2) ]
 
     -- the labels that are not listed lead to the root
-    pub slot_foreign : (k v s : ℕ) (o : Option NonZeroU32) → IsEntry order width base s (o ≡ None) v → HasFirst unit_width view s o → view.reached s → view.text s ≡ [] → Slot k 2 v
+    pub slot_foreign : (k v s : ℕ) (o : Option NonZeroU32) → IsEntry order width s (o ≡ None) v → HasFirst unit_width view s o → view.reached s → view.text s ≡ [] → Slot k 2 v
     slot_foreign k v s o entry at there empty label byte slot = (s, entry_first s v o entry at, leads slot, λ _. empty)
       where
         leads : IsSlotOf labels label 2 → StepLeads view stands (slice_index order k) label s
@@ -256,7 +268,7 @@ module _ {V : Type 0} (unit_width : ℕ → ℕ) (view : AutomatonView V) (stand
         leads (inr (is, none)) = record { is_state = there; ends = λ unit coded. inl (foreign label unit byte coded none, empty) }
 
     -- a listed label leads to where the step ends
-    pub slot_step : (k c j v t : ℕ) (o : Option NonZeroU32) → c ≡ 3 + j → IsEntry order width base t (o ≡ None) v → HasFirst unit_width view t o → view.reached t
+    pub slot_step : (k c j v t : ℕ) (o : Option NonZeroU32) → c ≡ 3 + j → IsEntry order width t (o ≡ None) v → HasFirst unit_width view t o → view.reached t
         → ((unit : ℕ) → stands (slice_index labels j) unit → Steps view (slice_index order k) unit t) → Slot k c v
     slot_step k c j v t o at entry told there ends = let P : ℕ → Type 0 = λ x. Slot k x v in subst P (let e : suc (suc (suc j)) ≡ c = omega (arith, at) in e) (λ label byte slot. (t, entry_first t v o entry told, leads label slot, λ two. absurd (omega (arith, two))))
       where
@@ -289,7 +301,7 @@ module _ {V : Type 0} (unit_width : ℕ → ℕ) (view : AutomatonView V) (stand
           (told.0, told.1, record { is_state = told.2.is_state; ends = λ unit coded. on unit told.0 (named label here unit coded) (told.2.ends unit coded) }, told.3)
 
 module _ {V : Type 0} (unit_width : ℕ → ℕ) (view : AutomatonView V) (stands : ℕ → ℕ → Type 0) (labels : List ℕ) (r : RowTable) (order : List ℕ)
-    (count_is : r.count ≡ length order) (wide : 0 < r.width) (w : AreWritten unit_width view stands labels order r.width (length order * r.width) (length order) 0 r.top) where
+    (count_is : r.count ≡ length order) (wide : 0 < r.width) (w : AreWritten unit_width view stands labels order r.width (length order) 0 r.top) where
   at_start : (k : ℕ) → k < length order → state_at r.top (k * r.width) ≡ slice_index order k
   at_start k below =
       let e : 2 * (k * r.width) ≡ 2 * (k * r.width) + 0 = omega arith in
@@ -298,7 +310,7 @@ module _ {V : Type 0} (unit_width : ℕ → ℕ) (view : AutomatonView V) (stand
       let whole : slice_index r.top (2 * (k * r.width)) + 65536 * slice_index r.top (2 * (k * r.width) + 1) ≡ slice_index order k = omega (arith, low, high) in
       sym (state_at-slot r.top (k * r.width) (omega (arith, w.size, row_below k (length order) r.width 1 below (omega (arith, wide))))) ∙ whole
 
-  stands_for : (x s : ℕ) → Stands order r.width (length order * r.width) x s → StandsFor r x s
+  stands_for : (x s : ℕ) → Stands order r.width x s → StandsFor r x s
   stands_for x s (inl (k, below, is, at)) = record {
     place = inl (k, omega (arith, below, count_is), is);
     state = ap (state_at r.top) is ∙ (at_start k below ∙ at);
@@ -311,93 +323,90 @@ module _ {V : Type 0} (unit_width : ℕ → ℕ) (view : AutomatonView V) (stand
       whole_size : length r.top ≡ 2 * (r.count * r.width)
       whole_size = omega (arith, w.size, ap (λ n. n * r.width) count_is)
 
-  -- what the rows' states cover, the rows cover
-  pub Covers-made : (n : ℕ) → AreCovered view stands n order → Covers view stands n r
-  Covers-made n covered w begins shallow =
-      let row = covered w begins shallow in
-      (row.0, omega (arith, row.1, count_is), ap view.text (at_start row.0 row.1) ∙ row.2)
-
   end_is : length order * r.width ≡ r.count * r.width
   end_is = ap (λ n. n * r.width) (sym count_is)
 
-  pub AreRows-made : (s : ℕ) → r.width ≡ row_places (length labels) → AreSlots labels 638 r.classes → AreChosen view order r.homes (63168 / r.width)
-      → Stands order r.width (length order * r.width) r.root s → view.reached s → view.text s ≡ []
-      → AreRows unit_width view stands r
-  AreRows-made s is slots chosen place there empty = record {
-    size = omega (arith, w.size, end_is);
-    few = omega (arith, end_is, fits_rows (length order) r.width chosen.few);
-    wide = wide;
-    classes_size = slots.size;
-    inside = λ label less. slot_fits labels label (slice_index r.classes label) r.width is (slots.right label less);
-    right = λ k label more less. right k label (omega (arith, more, count_is)) less (slot_some labels label (slice_index r.classes label) (slots.right label less));
-    homes = λ t within some. let home = chosen.homes t within some in (omega (arith, home.0, count_is), at_start (slice_index r.homes t) home.0 ∙ home.1);
-    small = λ t here. omega (arith, end_is, AreChosen-small view order r.homes (63168 / r.width) chosen r.width t (fits_rows (length order) r.width chosen.few) here);
-    root_state = (s, stands_for r.root s place, there, empty);
-  }
-    where
-      right : (k label : ℕ) → k < length order → label < 638 → (c : ℕ) × (slice_index r.classes label ≡ suc (suc c)) → (t : ℕ) × StepLeads view stands (state_at r.top (k * r.width)) label t
-          × (((slice_index r.top (2 * (k * r.width) + slice_index r.classes label) ≡ 65535) × ((j : ℕ) → j < r.count → state_at r.top (j * r.width) ≢ t))
-          ⊎ IsSlotEntry (r.count * r.width) (λ x. StandsFor r x t) (HasFirst unit_width view t None) (slice_index r.top (2 * (k * r.width) + slice_index r.classes label)))
-      right k label more less (c, at) = (told.0, subst R (sym (at_start k more)) told.2, entry told.1)
-        where
-          told : TellsStep unit_width view stands labels order r.width (length order * r.width) k (slice_index r.classes label) (slice_index r.top (2 * (k * r.width) + slice_index r.classes label)) label
-          told =
-              let P : ℕ → Type 0 = λ x. IsSlot unit_width view stands labels order r.width (length order * r.width) k x (slice_index r.top (2 * (k * r.width) + x)) in
-              let Q : ℕ → Type 0 = λ x. IsSlotOf labels label x in
-              let T : ℕ → Type 0 = λ x. TellsStep unit_width view stands labels order r.width (length order * r.width) k x (slice_index r.top (2 * (k * r.width) + x)) label in
-              subst T (sym at) (subst P at (w.rows k (slice_index r.classes label) more (slot_fits labels label (slice_index r.classes label) r.width is (slots.right label less))) label less (subst Q at (slots.right label less)))
-
-          R : ℕ → Type 0
-          R x = StepLeads view stands x label told.0
-
-          entry : IsEntry order r.width (length order * r.width) told.0 (HasFirst unit_width view told.0 None) (slice_index r.top (2 * (k * r.width) + slice_index r.classes label))
-              → ((slice_index r.top (2 * (k * r.width) + slice_index r.classes label) ≡ 65535) × ((j : ℕ) → j < r.count → state_at r.top (j * r.width) ≢ told.0))
-              ⊎ IsSlotEntry (r.count * r.width) (λ x. StandsFor r x told.0) (HasFirst unit_width view told.0 None) (slice_index r.top (2 * (k * r.width) + slice_index r.classes label))
-          entry (inl outside) = inl (outside.0, λ j below same. let row : j < length order = omega (arith, below, count_is) in outside.1 j row (sym (at_start j row) ∙ same))
-          entry (inr holds) =
-              let E : ℕ → Type 0 = λ n. IsSlotEntry n (λ x. StandsFor r x told.0) (HasFirst unit_width view told.0 None) (slice_index r.top (2 * (k * r.width) + slice_index r.classes label)) in
-              inr (subst E end_is (IsSlotEntry-map (length order * r.width) (λ y. Stands order r.width (length order * r.width) y told.0) (λ y. StandsFor r y told.0) (HasFirst unit_width view told.0 None) (HasFirst unit_width view told.0 None) _ holds (λ y there'. stands_for y told.0 there') (λ q. q)))
-
   -- a state with a row is told by it
-  row_place : (x t : ℕ) → Stands order r.width (length order * r.width) x t → (k : ℕ) × (k < length order) × (slice_index order k ≡ t) → x < r.count * r.width
+  row_place : (x t : ℕ) → Stands order r.width x t → (k : ℕ) × (k < length order) × (slice_index order k ≡ t) → x < r.count * r.width
   row_place x t (inl (k, below, is, at)) row = omega (arith, is, end_is, mul-add-lt k r.width 0 (length order) below wide)
   row_place x t (inr (is, none)) row = absurd (none row.0 row.1 row.2)
 
-  -- where each step from a row ends in a row, the rows are closed
-  pub AreClosed-made : (most s : ℕ) → r.width ≡ row_places (length labels) → AreSlots labels 638 r.classes → AreLabels view.content stands labels → ((k : ℕ) → k < length order → view.reached (slice_index order k)) → length order * r.width ≤ 63168
-      → Stands order r.width (length order * r.width) r.root s → view.reached s → view.text s ≡ [] → AreStepped view stands labels (length order) order → MayClose most view stands → AreClosed most stands r
-  AreClosed-made most s is slots named states few place there empty stepped may = record {
-    slots = may.slots;
-    root = row_place r.root s place (row_of_root s there empty);
-    stays = λ k label more less. stays k label (omega (arith, more, count_is)) less (slot_some labels label (slice_index r.classes label) (slots.right label less));
-  }
-    where
-      row_of_root : (t : ℕ) → view.reached t → view.text t ≡ [] → (k : ℕ) × (k < length order) × (slice_index order k ≡ t)
-      row_of_root t here none = (0, stepped.root.0, may.single (slice_index order 0) t (states 0 stepped.root.0) here (stepped.root.1 ∙ sym none))
+  module _ (is : r.width ≡ row_places (length labels)) (slots : AreSlots labels 638 r.classes) (choice : IsChoice view stands labels order r.homes (63168 / r.width))
+      (s : ℕ) (place : Stands order r.width r.root s) (there : view.reached s) (empty : view.text s ≡ []) where
+    abbrev class : ℕ → ℕ
+    class label = slice_index r.classes label
 
-      stays : (k label : ℕ) → k < length order → label < 638 → (c : ℕ) × (slice_index r.classes label ≡ suc (suc c)) → slice_index r.top (2 * (k * r.width) + slice_index r.classes label) ≢ 65535
-      stays k label more less (c, at) =
-          let P : ℕ → Type 0 = λ x. slice_index r.top (2 * (k * r.width) + x) ≢ 65535 in
-          subst P (sym at) (in_row told.1 (row_of slot))
-        where
-          slot : IsSlotOf labels label (suc (suc c))
-          slot = let Q : ℕ → Type 0 = λ x. IsSlotOf labels label x in subst Q at (slots.right label less)
+    abbrev slot : ℕ → ℕ → ℕ
+    slot k label = slice_index r.top (2 * (k * r.width) + class label)
 
-          told : TellsStep unit_width view stands labels order r.width (length order * r.width) k (suc (suc c)) (slice_index r.top (2 * (k * r.width) + suc (suc c))) label
-          told = w.rows k (suc (suc c)) more (slot_fits labels label (suc (suc c)) r.width is slot) label less slot
+    few : length order * r.width ≤ 63168
+    few = fits_rows (length order) r.width choice.chosen.few
 
-          in_row : IsEntry order r.width (length order * r.width) told.0 (HasFirst unit_width view told.0 None) (slice_index r.top (2 * (k * r.width) + suc (suc c))) → (j : ℕ) × (j < length order) × (slice_index order j ≡ told.0)
-              → slice_index r.top (2 * (k * r.width) + suc (suc c)) ≢ 65535
-          in_row (inl outside) row = absurd (outside.1 row.0 row.1 row.2)
-          in_row (inr holds) row = λ none. elim holds.is [ inl low ↦ omega (arith, low.0, holds.inside, few, none) | inr high ↦ omega (arith, high, holds.inside, few, none) ]
+    tells : (k label : ℕ) → k < length order → label < 638 → TellsStep unit_width view stands labels order r.width k (class label) (slot k label) label
+    tells k label more less = by (slot_some labels label (class label) (slots.right label less))
+      where
+        by : (c : ℕ) × (class label ≡ suc (suc c)) → TellsStep unit_width view stands labels order r.width k (class label) (slot k label) label
+        by (c, at) =
+            let P : ℕ → Type 0 = λ x. IsSlot unit_width view stands labels order r.width k x (slice_index r.top (2 * (k * r.width) + x)) in
+            let Q : ℕ → Type 0 = λ x. IsSlotOf labels label x in
+            let T : ℕ → Type 0 = λ x. TellsStep unit_width view stands labels order r.width k x (slice_index r.top (2 * (k * r.width) + x)) label in
+            subst T (sym at) (subst P at (w.rows k (class label) more (slot_fits labels label (class label) r.width is (slots.right label less))) label less (subst Q at (slots.right label less)))
 
-          row_of : IsSlotOf labels label (suc (suc c)) → (j : ℕ) × (j < length order) × (slice_index order j ≡ told.0)
-          row_of (inr (two, none)) = row_of_root told.0 told.2.is_state (told.3 two)
-          row_of (inl (j, below, here, slot')) =
-              let some = named.none_idle j below in
-              let row = stepped.ends k j more below in
-              let U : ℕ → Type 0 = λ l. stands l some.0 in
-              let w' : List ℕ = view.text (slice_index order k) in
-              let own = StepEnds-long view w' (view.text told.0) some.0 (told.2.ends some.0 (subst U here some.1)) may.alive in
-              let other = StepEnds-long view w' (view.text (slice_index order row.0)) some.0 (row.2 some.0 some.1) may.alive in
-              (row.0, row.1, may.single (slice_index order row.0) told.0 (states row.0 row.1) told.2.is_state (IsLong-same view.content (w' ++ some.0 ∷ []) (view.text (slice_index order row.0)) (view.text told.0) other own))
+    are_rows : AreRows unit_width view stands r
+    are_rows = record {
+      size = omega (arith, w.size, end_is);
+      few = omega (arith, end_is, few);
+      wide = wide;
+      classes_size = slots.size;
+      inside = λ label less. slot_fits labels label (class label) r.width is (slots.right label less);
+      right = λ k label more less.
+          let row : k < length order = omega (arith, more, count_is) in
+          let told = tells k label row less in
+          let R : ℕ → Type 0 = λ x. StepLeads view stands x label told.0 in
+          let E : ℕ → Type 0 = λ n. IsSlotEntry n (λ x. StandsFor r x told.0) (HasFirst unit_width view told.0 None) (slot k label) in (
+            told.0,
+            subst R (sym (at_start k row)) told.2,
+            elim told.1 [
+              | inl outside ↦ inl (outside.0, λ j below same. let before : j < length order = omega (arith, below, count_is) in outside.1 j before (sym (at_start j before) ∙ same))
+              | inr holds ↦ inr (subst E end_is (IsSlotEntry-map (length order * r.width) (λ x. Stands order r.width x told.0) (λ x. StandsFor r x told.0) (HasFirst unit_width view told.0 None) (HasFirst unit_width view told.0 None) _ holds (λ x here. stands_for x told.0 here) (λ q. q)))
+            ],
+          );
+      homes = λ t within some. let home = choice.chosen.homes t within some in (omega (arith, home.0, count_is), at_start (slice_index r.homes t) home.0 ∙ home.1);
+      small = λ t here. omega (arith, end_is, few, choice.chosen.fits t here);
+      root_state = (s, stands_for r.root s place, there, empty);
+    }
+
+    -- where each step from a row ends in a row, the rows are closed
+    are_closed : (most : ℕ) → AreLabels view.content stands labels → AreStepped view stands labels (length order) order → MayClose most view stands → AreClosed most stands r
+    are_closed most named stepped may = record {
+      slots = may.slots;
+      root = row_place r.root s place (row_of_root s there empty);
+      stays = λ k label more less. let row : k < length order = omega (arith, more, count_is) in in_row k label (tells k label row less).1 (row_of k label row less (slots.right label less));
+    }
+      where
+        row_of_root : (t : ℕ) → view.reached t → view.text t ≡ [] → (k : ℕ) × (k < length order) × (slice_index order k ≡ t)
+        row_of_root t here none = (0, stepped.root.0, may.single (slice_index order 0) t (choice.chosen.states 0 stepped.root.0) here (stepped.root.1 ∙ sym none))
+
+        in_row : (k label : ℕ) {t : ℕ} → IsEntry order r.width t (HasFirst unit_width view t None) (slot k label) → (j : ℕ) × (j < length order) × (slice_index order j ≡ t) → slot k label ≢ 65535
+        in_row k label (inl outside) row = absurd (outside.1 row.0 row.1 row.2)
+        in_row k label (inr holds) row = λ none. elim holds.is [ inl low ↦ omega (arith, low.0, holds.inside, few, none) | inr high ↦ omega (arith, high, holds.inside, few, none) ]
+
+        row_of : (k label : ℕ) (more : k < length order) (less : label < 638) → IsSlotOf labels label (class label) → (j : ℕ) × (j < length order) × (slice_index order j ≡ (tells k label more less).0)
+        row_of k label more less (inr (two, none)) = let told = tells k label more less in row_of_root told.0 told.2.is_state (told.3 two)
+        row_of k label more less (inl (j, below, here, at)) =
+            let told = tells k label more less in
+            let some = named.none_idle j below in
+            let row = stepped.ends k j more below in
+            let U : ℕ → Type 0 = λ l. stands l some.0 in
+            let text : List ℕ = view.text (slice_index order k) in
+            let own = StepEnds-long view text (view.text told.0) some.0 (told.2.ends some.0 (subst U here some.1)) may.alive in
+            let other = StepEnds-long view text (view.text (slice_index order row.0)) some.0 (row.2 some.0 some.1) may.alive in
+            (row.0, row.1, may.single (slice_index order row.0) told.0 (choice.chosen.states row.0 row.1) told.2.is_state (IsLong-same view.content (text ++ some.0 ∷ []) (view.text (slice_index order row.0)) (view.text told.0) other own))
+
+    -- the rows are right, cover what the choice covers, and are closed where each step from a chosen state ends at one
+    pub Rows-made : (most : ℕ) → AreLabels view.content stands labels → AreRows unit_width view stands r × Covers view stands 2 r × (MayClose most view stands → ClosesOrFills most view stands (63168 / r.width) r)
+    Rows-made most named = (
+      are_rows,
+      λ v begins shallow. let row = choice.covered v begins shallow in (row.0, omega (arith, row.1, count_is), ap view.text (at_start row.0 row.1) ∙ row.2),
+      λ may. elim choice.ends [ inl stepped ↦ inl (are_closed most named stepped may) | inr many ↦ inr many ],
+    )

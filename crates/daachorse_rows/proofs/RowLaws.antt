@@ -1,5 +1,5 @@
 -- What the slots tell: the state of a place, and the end of a step from it.
-use Rattle.std.proofs.Common.{◌≡◌, ◌≢◌, ℕ, zero, suc, ◌+◌, ◌*◌, ◌-◌, ◌%◌, ◌^◌, ◌<◌, ◌≤◌, ◌⊎◌, inl, inr, List, [], ◌∷◌, length, refl, sym, ap, ◌∙◌, subst, arith}
+use Rattle.std.proofs.Common.{◌≡◌, ◌≢◌, ℕ, zero, suc, ◌+◌, ◌*◌, ◌-◌, ◌%◌, ◌^◌, ◌<◌, ◌≤◌, inl, inr, List, [], ◌∷◌, length, refl, sym, ap, ◌∙◌, subst, arith}
 use Rattle.std.specs.Prelude.{slice_index, Option, None}
 use Rattle.std.specs.declared.num.NonZeroU32.{NonZeroU32}
 use Rattle.std.proofs.lemmas.Nat.{mul-le}
@@ -79,32 +79,27 @@ module _ {V : Type 0} (unit_width : ℕ → ℕ) (view : AutomatonView V) (stand
       let Q : ℕ → Type 0 = λ s. StepLeads view stands s label row.0 in
       record { state = row.0; tells = elim row.2 [ inl outside ↦ absurd (some (sym same ∙ outside.0)) | inr told ↦ subst P same told ]; leads = subst Q here row.1 }
 
-  -- an even entry is the place of a state with no output
-  quiet_entry : (x label entry : ℕ) (step : IsRowStep x label entry) → entry % 2 ≡ 0 → StandsFor r entry step.state × HasFirst unit_width view step.state None × (entry < r.count * r.width)
-  quiet_entry x label entry step even = by step.tells.is
-    where
-      by : ((entry ≡ step.tells.place) × HasFirst unit_width view step.state None) ⊎ (entry ≡ step.tells.place + 1) → StandsFor r entry step.state × HasFirst unit_width view step.state None × (entry < r.count * r.width)
-      by (inr is) = absurd (omega (arith, is, step.tells.even.1, even))
-      by (inl (is, quiet)) = let P : ℕ → Type 0 = λ y. StandsFor r y step.state in (subst P (sym is) step.tells.stands_for, quiet, omega (arith, is, step.tells.inside))
-
-  -- an odd one is the place of its state, and 1
-  loud_entry : (x label entry : ℕ) (step : IsRowStep x label entry) → entry % 2 ≢ 0 → StandsFor r (entry - 1) step.state × (entry - 1 < r.count * r.width)
-  loud_entry x label entry step odd = by step.tells.is
-    where
-      by : ((entry ≡ step.tells.place) × HasFirst unit_width view step.state None) ⊎ (entry ≡ step.tells.place + 1) → StandsFor r (entry - 1) step.state × (entry - 1 < r.count * r.width)
-      by (inl (is, quiet)) = absurd (odd (omega (arith, is, step.tells.even.1)))
-      by (inr is) =
-          let P : ℕ → Type 0 = λ y. StandsFor r y step.state in
-          let same : step.tells.place ≡ entry - 1 = omega (arith, is) in
-          (subst P same step.tells.stands_for, omega (arith, is, step.tells.inside))
-
   -- a look at the row x by a label, where the slot tells the end of the step
-  module _ (x label : ℕ) (place : IsPlace r x) (within : x < r.count * r.width) (byte : label < 638) (some : slice_index r.top (2 * x + slice_index r.classes label) ≢ 65535) where
-    abbrev entry : ℕ
-    entry = slice_index r.top (2 * x + slice_index r.classes label)
-
+  module _ (x label entry : ℕ) (place : IsPlace r x) (within : x < r.count * r.width) (byte : label < 638) (is : entry ≡ slice_index r.top (2 * x + slice_index r.classes label)) (some : entry ≢ 65535) where
     step : IsRowStep x label entry
-    step = row_step x label place within byte some
+    step = let P : ℕ → Type 0 = λ e. IsRowStep x label e in subst P (sym is) (row_step x label place within byte (λ none. some (is ∙ none)))
+
+    -- an even entry is the place of a state with no output
+    quiet : entry % 2 ≡ 0 → StandsFor r entry step.state × HasFirst unit_width view step.state None × (entry < r.count * r.width)
+    quiet even = elim step.tells.is [
+      | inl low ↦ let P : ℕ → Type 0 = λ y. StandsFor r y step.state in (subst P (sym low.0) step.tells.stands_for, low.1, omega (arith, low.0, step.tells.inside))
+      | inr high ↦ absurd (omega (arith, high, step.tells.even.1, even))
+    ]
+
+    -- an odd one is the place of its state, and 1
+    loud : entry % 2 ≢ 0 → StandsFor r (entry - 1) step.state × (entry - 1 < r.count * r.width)
+    loud odd = elim step.tells.is [
+      | inl low ↦ absurd (odd (omega (arith, low.0, step.tells.even.1)))
+      | inr high ↦
+          let P : ℕ → Type 0 = λ y. StandsFor r y step.state in
+          let same : step.tells.place ≡ entry - 1 = omega (arith, high) in
+          (subst P same step.tells.stands_for, omega (arith, high, step.tells.inside))
+    ]
 
     reached_step : (y : ℕ) → StandsFor r y step.state → y < r.count * r.width → rowed.reached y
     reached_step y there inside = let P : ℕ → Type 0 = λ s. view.reached s in (there.place, subst P (sym there.state) step.leads.is_state, λ closed. inside)
@@ -115,19 +110,16 @@ module _ {V : Type 0} (unit_width : ℕ → ℕ) (view : AutomatonView V) (stand
         (reached_step y there inside, subst P (sym there.state) (step.leads.ends unit coded))
 
     pub look_quiet : entry % 2 ≡ 0 → (unit : ℕ) → stands label unit → rowed.reached entry × Steps rowed x unit entry
-    look_quiet even = let quiet = quiet_entry x label entry step even in look_step entry quiet.0 quiet.2
+    look_quiet even = look_step entry (quiet even).0 (quiet even).2
 
     pub output_quiet : entry % 2 ≡ 0 → HasFirst unit_width rowed entry None
-    output_quiet even =
-        let quiet = quiet_entry x label entry step even in
-        let P : ℕ → Type 0 = λ s. HasFirst unit_width view s None in
-        subst P (sym quiet.0.state) quiet.1
+    output_quiet even = let P : ℕ → Type 0 = λ s. HasFirst unit_width view s None in subst P (sym (quiet even).0.state) (quiet even).1
 
     pub reached_loud : entry % 2 ≢ 0 → rowed.reached (entry - 1)
-    reached_loud odd = let loud = loud_entry x label entry step odd in reached_step (entry - 1) loud.0 loud.1
+    reached_loud odd = reached_step (entry - 1) (loud odd).0 (loud odd).1
 
     pub look_loud : entry % 2 ≢ 0 → (unit : ℕ) → stands label unit → rowed.reached (entry - 1) × Steps rowed x unit (entry - 1)
-    look_loud odd = let loud = loud_entry x label entry step odd in look_step (entry - 1) loud.0 loud.1
+    look_loud odd = look_step (entry - 1) (loud odd).0 (loud odd).1
 
   -- where the rows are closed, no slot of a row leads out of them
   pub never_outside : (x label : ℕ) → IsPlace r x → x < r.count * r.width → label < 638 → AreClosed most stands r → slice_index r.top (2 * x + slice_index r.classes label) ≢ 65535

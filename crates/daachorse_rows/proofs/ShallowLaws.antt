@@ -1,6 +1,6 @@
 -- The states near the root: where steps from them end, and that each has a row or there is no room.
 use Rattle.std.proofs.Common.{◌≡◌, ◌≢◌, ℕ, zero, suc, ◌+◌, ◌*◌, ◌/◌, ◌<◌, ◌≤◌, ◌⊎◌, inl, inr, List, [], ◌∷◌, ◌++◌, length, refl, sym, ap, ◌∙◌, subst, arith, length-append}
-use Rattle.std.specs.Prelude.{slice_index}
+use Rattle.std.specs.Prelude.{slice_index, slice_set}
 use Rattle.std.specs.List.{All}
 use Rattle.std.proofs.Math.Nat.{le-div_iff_mul-le}
 use Rattle.std.proofs.lemmas.List.Elements.{All-append, All-cons, All-head, All-nil, All-tail}
@@ -10,8 +10,8 @@ use Rattle.daachorse_model.specs.Prefixes.{IsPrefix, IsSuffix}
 use Rattle.daachorse_model.proofs.Steps.{IsPrefix-less}
 use Rattle.daachorse_model.proofs.Lists.{below_or_at, ends_in}
 use Rattle.daachorse_search.specs.Views.{AutomatonView, Steps}
-use Rattle.daachorse_rows.specs.Rows.{AreChosen, AreCovered, AreLabels, AreShallow, AreStepped, AreTooMany, EndsInRow, GoesOn, HasSlot, IsShallow, row_places}
-use Rattle.daachorse_rows.proofs.MakingLaws.{read-new, read-old}
+use Rattle.daachorse_rows.specs.Rows.{AreAdded, AreChosen, AreCovered, AreLabels, AreNear, AreShallow, AreStepped, AreTooMany, EndsInRow, GoesOn, HasSlot, IsShallow, StepLeads, row_places}
+use Rattle.daachorse_rows.proofs.MakingLaws.{AreChosen-more, read-new, read-old}
 
 All-behind : {X : Type 0} (P : X → Type 0) (front back : List X) → All P (front ++ back) → All P back
 All-behind P [] back h = h
@@ -92,17 +92,19 @@ module _ (order order' : List ℕ) (s : ℕ) (is : order' ≡ order ++ s ∷ [])
   pub row_last : (k : ℕ) × (k < length order') × (slice_index order' k ≡ s)
   row_last = (length order, omega (arith, ap length is, length-append order (s ∷ [])), read-new order order' s (length order) is refl)
 
-  pub AreShallow-push : {V : Type 0} (view : AutomatonView V) (stands : ℕ → ℕ → Type 0) (n : ℕ) → AreShallow view stands n order → IsShallow stands n (view.text s) → AreShallow view stands n order'
-  AreShallow-push view stands n shallow last k below =
-      let P : ℕ → Type 0 = λ x. IsShallow stands n (view.text x) in
-      elim (below_or_at k (length order) (omega (arith, below, ap length is, length-append order (s ∷ [])))) [
-        | inl old ↦ subst P (sym (read-old order order' s k is old)) (shallow k old)
-        | inr new ↦ subst P (sym (read-new order order' s k is new)) last
-      ]
-
--- a row's state has the text that it had
-pub state_shallow : {V : Type 0} (view : AutomatonView V) (stands : ℕ → ℕ → Type 0) (n : ℕ) (old new : List ℕ) (k : ℕ) → GoesOn old new → k < length old → AreShallow view stands n old → IsShallow stands n (view.text (slice_index new k))
-state_shallow view stands n old new k on below shallow = let P : ℕ → Type 0 = λ s. IsShallow stands n (view.text s) in subst P (sym (on.same k below)) (shallow k below)
+  pub AreNear-push : {V : Type 0} (view : AutomatonView V) (stands : ℕ → ℕ → Type 0) (n m : ℕ) → AreNear view stands n m order → IsShallow stands (n + 1) (view.text s) → AreNear view stands n m order'
+  AreNear-push view stands n m near last =
+      let size : length order' ≡ length order + 1 = omega (arith, ap length is, length-append order (s ∷ [])) in
+      let old : (d k : ℕ) → k < length order → IsShallow stands d (view.text (slice_index order k)) → IsShallow stands d (view.text (slice_index order' k)) =
+      λ d k below here. (let P : ℕ → Type 0 = λ x. IsShallow stands d (view.text x) in subst P (sym (read-old order order' s k is below)) here) in
+      record {
+        inside = omega (arith, near.inside, size);
+        first = λ k below. old n k (omega (arith, below, near.inside)) (near.first k below);
+        all = λ k below. elim (below_or_at k (length order) (omega (arith, below, size))) [
+          | inl before ↦ old (n + 1) k before (near.all k before)
+          | inr new ↦ let P : ℕ → Type 0 = λ x. IsShallow stands (n + 1) (view.text x) in subst P (sym (read-new order order' s k is new)) last
+        ];
+      }
 
 module _ {V : Type 0} (view : AutomatonView V) (stands : ℕ → ℕ → Type 0) where
   -- where a step ends in a row and goes on, that row's state has the text that goes on
@@ -135,7 +137,7 @@ module _ {V : Type 0} (view : AutomatonView V) (stands : ℕ → ℕ → Type 0)
   pub AreCovered-on : (n : ℕ) (old new : List ℕ) → GoesOn old new → AreCovered view stands n old → AreCovered view stands n new
   AreCovered-on n old new on covered w begins shallow = row_on view.text old new on w (covered w begins shallow)
 
-  pub EndsInRow-on : (s label : ℕ) (old new : List ℕ) → GoesOn old new → EndsInRow view stands s label old → EndsInRow view stands s label new
+  EndsInRow-on : (s label : ℕ) (old new : List ℕ) → GoesOn old new → EndsInRow view stands s label old → EndsInRow view stands s label new
   EndsInRow-on s label old new on (k, below, ends) =
       let P : ℕ → Type 0 = λ x. (unit : ℕ) → stands label unit → Steps view s unit x in
       (k, omega (arith, below, on.more), subst P (sym (on.same k below)) ends)
@@ -153,39 +155,49 @@ module _ {V : Type 0} (view : AutomatonView V) (stands : ℕ → ℕ → Type 0)
     pub AreStepped-fewer : (n m : ℕ) (order : List ℕ) → n ≤ m → AreStepped view stands labels m order → AreStepped view stands labels n order
     AreStepped-fewer n m order fewer h = record { root = h.root; ends = λ k j below. h.ends k j (omega (arith, below, fewer)) }
 
+    -- the steps by the first labels from the row i end in rows
+    abbrev pub Row : ℕ → ℕ → List ℕ → Type 0
+    Row i n order = (j : ℕ) → j < n → EndsInRow view stands (slice_index order i) (slice_index labels j) order
+
+    pub Row-none : (i : ℕ) (order : List ℕ) → Row i 0 order
+    Row-none i order j below = absurd (omega (arith, below))
+
     -- the ends of the steps stay where they are
+    pub Row-on : (i n : ℕ) (old new : List ℕ) → GoesOn old new → i < length old → Row i n old → Row i n new
+    Row-on i n old new on inside h j below =
+        let P : ℕ → Type 0 = λ x. EndsInRow view stands x (slice_index labels j) new in
+        subst P (sym (on.same i inside)) (EndsInRow-on (slice_index old i) (slice_index labels j) old new on (h j below))
+
     pub AreStepped-on : (n : ℕ) (old new : List ℕ) → GoesOn old new → n ≤ length old → AreStepped view stands labels n old → AreStepped view stands labels n new
     AreStepped-on n old new on inside h = record {
       root = (omega (arith, h.root.0, on.more), ap view.text (on.same 0 h.root.0) ∙ h.root.1);
-      ends = λ k j below low.
-          let P : ℕ → Type 0 = λ x. EndsInRow view stands x (slice_index labels j) new in
-          subst P (sym (on.same k (omega (arith, below, inside)))) (EndsInRow-on (slice_index old k) (slice_index labels j) old new on (h.ends k j below low));
+      ends = λ k j below low. Row-on k (length labels) old new on (omega (arith, below, inside)) (λ i less. h.ends k i below less) j low;
     }
+
+    pub Row-more : (i n : ℕ) (order : List ℕ) → Row i n order → EndsInRow view stands (slice_index order i) (slice_index labels n) order → Row i (n + 1) order
+    Row-more i n order h end j below = elim (below_or_at j n below) [
+      | inl before ↦ h j before
+      | inr same ↦ let P : ℕ → Type 0 = λ l. EndsInRow view stands (slice_index order i) (slice_index labels l) order in subst P (sym same) end
+    ]
 
     -- the ends of the steps from one row more
-    pub AreStepped-more : (n : ℕ) (old new : List ℕ) → GoesOn old new → n < length old → AreStepped view stands labels n old → ((j : ℕ) → j < length labels → EndsInRow view stands (slice_index old n) (slice_index labels j) new)
-        → AreStepped view stands labels (n + 1) new
-    AreStepped-more n old new on inside h here = record {
-      root = (AreStepped-on n old new on (omega (arith, inside)) h).root;
-      ends = λ k j below low.
-          let P : ℕ → Type 0 = λ x. EndsInRow view stands x (slice_index labels j) new in
-          elim (below_or_at k n below) [
-            | inl before ↦ (AreStepped-on n old new on (omega (arith, inside)) h).ends k j before low
-            | inr same ↦ let Q : ℕ → Type 0 = λ i. P (slice_index new i) in subst Q (sym same) (subst P (sym (on.same n inside)) (here j low))
-          ];
+    pub AreStepped-more : (n : ℕ) (order : List ℕ) → AreStepped view stands labels n order → Row n (length labels) order → AreStepped view stands labels (n + 1) order
+    AreStepped-more n order h here = record {
+      root = h.root;
+      ends = λ k j below low. elim (below_or_at k n below) [
+        | inl before ↦ h.ends k j before low
+        | inr same ↦ let P : ℕ → Type 0 = λ i. EndsInRow view stands (slice_index order i) (slice_index labels j) order in subst P (sym same) (here j low)
+      ];
     }
 
-  module _ (s label t : ℕ) (ends : (unit : ℕ) → stands label unit → Steps view s unit t) where
-    -- its text has at most one unit more
-    pub end_shallow : (n : ℕ) → label < 638 → (unit : ℕ) × stands label unit → IsShallow stands n (view.text s) → IsShallow stands (n + 1) (view.text t)
-    end_shallow n low some shallow = StepEnds-shallow stands view.content view.dead n (view.text s) (view.text t) some.0 (ends some.0 some.1) shallow (label, low, some.1)
+  pub AreNear-all : (n : ℕ) (order : List ℕ) → AreShallow view stands n order → AreNear view stands n (length order) order
+  AreNear-all n order shallow = record { inside = omega arith; first = shallow; all = λ k below. IsShallow-weaker stands n (n + 1) (view.text (slice_index order k)) (omega arith) (shallow k below) }
 
 -- ---- there is no room
 
 -- the states of the rows, and one more that has none, are too many
-pub AreTooMany-full : {V : Type 0} (view : AutomatonView V) (stands : ℕ → ℕ → Type 0) (n : ℕ) (order homes : List ℕ) (most : ℕ) → AreChosen view order homes most → AreShallow view stands n order → length order ≡ most → most < 65535
-    → (s : ℕ) → view.reached s → IsShallow stands n (view.text s) → slice_index homes s ≡ 65535 → AreTooMany view stands n most
-AreTooMany-full view stands n order homes most chosen shallow full few s there last none = record {
+AreTooMany-full : {V : Type 0} (view : AutomatonView V) (stands : ℕ → ℕ → Type 0) (n : ℕ) (order homes : List ℕ) (most : ℕ) → AreChosen view order homes most → AreShallow view stands n order → length order ≡ most → (s : ℕ) → view.reached s → IsShallow stands n (view.text s) → slice_index homes s ≡ 65535 → AreTooMany view stands n most
+AreTooMany-full view stands n order homes most chosen shallow full s there last none = record {
   states = s ∷ order;
   many = omega (arith, full);
   different = different;
@@ -193,7 +205,7 @@ AreTooMany-full view stands n order homes most chosen shallow full few s there l
 }
   where
     fresh : (k : ℕ) → k < length order → s ≢ slice_index order k
-    fresh k below same = omega (arith, none, ap (slice_index homes) same, (chosen.own k below).1, below, full, few)
+    fresh k below same = omega (arith, none, ap (slice_index homes) same, (chosen.own k below).1, below, full, chosen.room)
 
     different : (i j : ℕ) → i < length (s ∷ order) → j < length (s ∷ order) → slice_index (s ∷ order) i ≡ slice_index (s ∷ order) j → i ≡ j
     different zero zero p q same = refl
@@ -216,3 +228,46 @@ AreTooMany-weaker view stands n m room least less fewer h = record {
 -- so many rows fit in any case
 pub room_least : (labels least : ℕ) → least * row_places labels ≤ 63168 → least ≤ 63168 / row_places labels
 room_least labels least fits = (le-div_iff_mul-le (omega arith)).1 fits
+
+-- ---- rows are added
+
+module _ {V : Type 0} (view : AutomatonView V) (stands : ℕ → ℕ → Type 0) (most : ℕ) where
+  pub AreAdded-none : (n : ℕ) (order homes : List ℕ) → AreChosen view order homes most → AreAdded view stands order order homes most n
+  AreAdded-none n order homes chosen = record { chosen = chosen; on = GoesOn-same order; near = λ d m less near. near }
+
+  pub AreAdded-through : (n i j : ℕ) (old now new homes homes' : List ℕ) → i ≤ n → j ≤ n → AreAdded view stands old now homes most i → AreAdded view stands now new homes' most j → AreAdded view stands old new homes' most n
+  AreAdded-through n i j old now new homes homes' p q first second = record {
+    chosen = second.chosen;
+    on = GoesOn-through old now new first.on second.on;
+    near = λ d m less near. second.near d m (omega (arith, less, q)) (first.near d m (omega (arith, less, p)) near);
+  }
+
+  -- a step from the row `at` by the label k, which is listed, ends at a state that has no row
+  module _ (labels : List ℕ) (named : AreLabels view.content stands labels) (at k : ℕ) (listed : k < length labels) (old order homes : List ℕ) (added : AreAdded view stands old order homes most (at + 1))
+      (next : ℕ) (leads : StepLeads view stands (slice_index order at) (slice_index labels k) next) (none : slice_index homes next ≡ 65535) where
+    -- its text has at most one unit more
+    end_shallow : (d m : ℕ) → at < m → AreNear view stands d m order → IsShallow stands (d + 1) (view.text next)
+    end_shallow d m before near =
+        let some = named.none_idle k listed in
+        StepEnds-shallow stands view.content view.dead d (view.text (slice_index order at)) (view.text next) some.0 (leads.ends some.0 some.1) (near.first at before) (slice_index labels k, named.below k listed, some.1)
+
+    -- it gets the next row
+    pub AreAdded-push : (order' homes' : List ℕ) → order' ≡ order ++ next ∷ [] → homes' ≡ slice_set homes next (length order) → length order < most → AreAdded view stands old order' homes' most (at + 1)
+    AreAdded-push order' homes' is set room = record {
+      chosen = AreChosen-more view order homes most added.chosen next order' homes' is set none room leads.is_state;
+      on = GoesOn-through old order order' added.on (GoesOn-push order order' next is);
+      near = λ d m less near. let now = added.near d m less near in AreNear-push order order' next is view stands d m now (end_shallow d m (omega (arith, less)) now);
+    }
+
+    pub Row-push : (order' : List ℕ) → order' ≡ order ++ next ∷ [] → at < length order → Row view stands labels at k order → Row view stands labels at (k + 1) order'
+    Row-push order' is inside row =
+        let on = GoesOn-push order order' next is in
+        let P : ℕ → Type 0 = λ x. EndsInRow view stands x (slice_index labels k) order' in
+        Row-more view stands labels at k order' (Row-on view stands labels at k order order' on inside row)
+        (subst P (sym (on.same at inside)) (EndsInRow-row view stands (slice_index order at) (slice_index labels k) next leads.ends order' (row_last order order' next is)))
+
+    -- or there are too many
+    pub AreTooMany-next : length order ≡ most → (d m : ℕ) → at + 1 ≤ m → AreNear view stands d m old → AreTooMany view stands (d + 1) most
+    AreTooMany-next full d m less near =
+        let now = added.near d m less near in
+        AreTooMany-full view stands (d + 1) order homes most added.chosen now.all full next leads.is_state (end_shallow d m (omega (arith, less)) now) none

@@ -1,5 +1,5 @@
 -- Rows of the states near the root: of each label where the step ends. A place stands for a state: the first two slots of a row, in which the state is written, or behind all rows the states in order. Places count slots by two.
-use Rattle.std.specs.Prelude.{◌≡◌, ◌≢◌, ◌⊎◌, ℕ, zero, suc, ◌+◌, ◌*◌, ◌/◌, ◌%◌, ◌<◌, ◌≤◌, ◌^◌, List, [], ◌∷◌, ◌++◌, length, slice_index, None}
+use Rattle.std.specs.Prelude.{◌≡◌, ◌≢◌, ◌⊎◌, ℕ, Bool, true, false, zero, suc, ◌+◌, ◌*◌, ◌/◌, ◌%◌, ◌<◌, ◌≤◌, ◌^◌, List, [], ◌∷◌, length, slice_index, None}
 use Rattle.std.specs.List.{All}
 use Rattle.daachorse_core.specs.Looks.{IsForeign}
 use Rattle.daachorse_model.specs.Dictionary.{Dictionary}
@@ -159,12 +159,16 @@ module _ {V : Type 0} (unit_width : ℕ → ℕ) (view : AutomatonView V) (stand
     pub small : (s : ℕ) → view.reached s → r.count * r.width + s < 2 ^ 32
     pub root_state : (s : ℕ) × StandsFor r r.root s × view.reached s × (view.text s ≡ [])
 
--- ---- while they are made: `order` are the states of the rows, and `base` is where the rows end
+-- ---- while they are made: `order` are the states of the rows
 
-module _ (order : List ℕ) (width base : ℕ) where
+module _ (order : List ℕ) (width : ℕ) where
   -- the place stands for the state: its row's, where it has one
   abbrev pub Stands : ℕ → ℕ → Type 0
-  Stands x s = ((k : ℕ) × (k < length order) × (x ≡ k * width) × (slice_index order k ≡ s)) ⊎ ((x ≡ base + s) × ((k : ℕ) → k < length order → slice_index order k ≢ s))
+  Stands x s = ((k : ℕ) × (k < length order) × (x ≡ k * width) × (slice_index order k ≡ s)) ⊎ ((x ≡ length order * width + s) × ((k : ℕ) → k < length order → slice_index order k ≢ s))
+
+  -- what a slot holds for a state: 65,535, where it has no row
+  abbrev pub IsEntry : ℕ → Type 0 → ℕ → Type 0
+  IsEntry t quiet v = ((v ≡ 65535) × ((k : ℕ) → k < length order → slice_index order k ≢ t)) ⊎ IsSlotEntry (length order * width) (λ x. Stands x t) quiet v
 
 -- the rows of the states of the rows
 abbrev pub AreHomes : List ℕ → List ℕ → Type 0
@@ -174,13 +178,23 @@ AreHomes order homes = (s : ℕ) → s < length homes → slice_index homes s �
 abbrev pub AreOwn : List ℕ → List ℕ → Type 0
 AreOwn order homes = (k : ℕ) → k < length order → (slice_index order k < length homes) × (slice_index homes (slice_index order k) ≡ k) × (k < 65535)
 
--- the states of the rows can be reached, and the row of each is known; no state is too large for an entry
+-- each state of the rows has its own, and rows of so many places fit
+pub record HaveRows (order table : List ℕ) (width : ℕ) : Type 0 where
+  pub homes : AreHomes order table
+  pub own : AreOwn order table
+  pub few : length order * width ≤ 63168
+  pub wide : 0 < width
+  pub even : (half : ℕ) × (width ≡ half * 2)
+
+-- the states of the rows can be reached, and the row of each is known; each state is in the table, and none is too large for an entry
 pub record AreChosen {V : Type 0} (view : AutomatonView V) (order table : List ℕ) (most : ℕ) : Type 0 where
   pub states : (k : ℕ) → k < length order → view.reached (slice_index order k)
   pub homes : AreHomes order table
   pub own : AreOwn order table
   pub few : length order ≤ most
-  pub fits : (s : ℕ) → view.reached s → s + 65536 < 4294967296
+  pub room : most < 65535
+  pub inside : (s : ℕ) → view.reached s → s < length table
+  pub fits : (s : ℕ) → view.reached s → s + 65536 < 2 ^ 32
 
 -- the rows stay, and more may follow
 pub record GoesOn (old new : List ℕ) : Type 0 where
@@ -191,6 +205,12 @@ module _ {V : Type 0} (view : AutomatonView V) (stands : ℕ → ℕ → Type 0)
   -- the texts of the rows' states have at most n units, each with a slot
   abbrev pub AreShallow : ℕ → List ℕ → Type 0
   AreShallow n order = (k : ℕ) → k < length order → IsShallow stands n (view.text (slice_index order k))
+
+  -- those of the first m have at most n, and the others one more
+  pub record AreNear (n m : ℕ) (order : List ℕ) : Type 0 where
+    pub inside : m ≤ length order
+    pub first : (k : ℕ) → k < m → IsShallow stands n (view.text (slice_index order k))
+    pub all : AreShallow (n + 1) order
 
   -- the step by the label from the state s ends at the text of a row's state
   abbrev pub EndsInRow : ℕ → ℕ → List ℕ → Type 0
@@ -205,15 +225,28 @@ module _ {V : Type 0} (view : AutomatonView V) (stands : ℕ → ℕ → Type 0)
   abbrev pub AreCovered : ℕ → List ℕ → Type 0
   AreCovered n order = (w : List ℕ) → IsPrefix view.content w → IsShallow stands n w → (k : ℕ) × (k < length order) × (view.text (slice_index order k) ≡ w)
 
-module _ (order : List ℕ) (width base : ℕ) where
-  -- what a slot holds for a state: 65,535, where it has no row
-  abbrev pub IsEntry : ℕ → Type 0 → ℕ → Type 0
-  IsEntry t quiet v = ((v ≡ 65535) × ((k : ℕ) → k < length order → slice_index order k ≢ t)) ⊎ IsSlotEntry base (λ x. Stands order width base x t) quiet v
+  -- rows were added for the ends of steps from the first n rows
+  pub record AreAdded (old new homes : List ℕ) (most n : ℕ) : Type 0 where
+    pub chosen : AreChosen view new homes most
+    pub on : GoesOn old new
+    pub near : (d m : ℕ) → n ≤ m → AreNear d m old → AreNear d m new
 
-module _ {V : Type 0} (unit_width : ℕ → ℕ) (view : AutomatonView V) (stands : ℕ → ℕ → Type 0) (labels order : List ℕ) (width base : ℕ) where
+  -- and all these ends have rows, or there is no room
+  pub record IsRound (labels old new homes : List ℕ) (most n : ℕ) (all : Bool) : Type 0 where
+    pub added : AreAdded old new homes most n
+    pub stepped : all ≡ true → AreStepped labels n new
+    pub full : all ≡ false → (d m : ℕ) → n ≤ m → AreNear d m old → AreTooMany view stands (d + 1) most
+
+  -- rows of the states near the root, and of all others or of as many as there is room for
+  pub record IsChoice (labels order homes : List ℕ) (most : ℕ) : Type 0 where
+    pub chosen : AreChosen view order homes most
+    pub covered : AreCovered 2 order
+    pub ends : AreStepped labels (length order) order ⊎ ((n : ℕ) × AreTooMany view stands n most)
+
+module _ {V : Type 0} (unit_width : ℕ → ℕ) (view : AutomatonView V) (stands : ℕ → ℕ → Type 0) (labels order : List ℕ) (width : ℕ) where
   -- what the slot c of the row k holds for a label
   abbrev pub TellsStep : ℕ → ℕ → ℕ → ℕ → Type 0
-  TellsStep k c v label = (t : ℕ) × IsEntry order width base t (HasFirst unit_width view t None) v × StepLeads view stands (slice_index order k) label t × (c ≡ 2 → view.text t ≡ [])
+  TellsStep k c v label = (t : ℕ) × IsEntry order width t (HasFirst unit_width view t None) v × StepLeads view stands (slice_index order k) label t × (c ≡ 2 → view.text t ≡ [])
 
   -- the slot c of the row k
   abbrev pub IsSlot : ℕ → ℕ → ℕ → Type 0

@@ -2,8 +2,8 @@
 //!
 //! The states are those nearest to the root, breadth-first.
 
-ghost use Rattle.std.specs.Prelude.{◌≡◌, ◌⊎◌, ◌*◌, ◌+◌, ◌/◌, ◌%◌, ◌<◌, ◌≤◌, ◌^◌, ℕ, [], true, false, length, map, slice_index, IfOk, IfSome, MatchOption, OnOk, None};
-ghost use Rattle.daachorse_rows.specs.Rows.{AreChosen, AreCovered, AreHomes, AreLabels, AreOwn, AreShallow, AreSlots, AreStepped, AreTooMany, AreWritten, EndsInRow, GoesOn, IsEntry, IsShallow, IsSlot, IsSlotOf, Stands, StepLeads, StepsAs, row_places, stands_by};
+ghost use Rattle.std.specs.Prelude.{◌≡◌, ◌⊎◌, ◌*◌, ◌+◌, ◌/◌, ◌<◌, ◌≤◌, ◌^◌, ℕ, [], length, map, slice_index, IfOk, IfSome, MatchOption, OnOk, None};
+ghost use Rattle.daachorse_rows.specs.Rows.{AreChosen, AreLabels, AreShallow, AreSlots, AreStepped, AreTooMany, AreWritten, EndsInRow, GoesOn, HaveRows, IsChoice, IsEntry, IsRound, IsSlot, IsSlotOf, Stands, StepLeads, StepsAs, row_places, stands_by};
 
 use crate::label::{RowLabel, SLOTTED};
 use daachorse_core::turns::{Look, Turns};
@@ -63,35 +63,36 @@ pub(crate) struct Chosen<L: Allocator> {
 }
 
 impl<L: Allocator> Chosen<L> {
-    /// The place of a state, if the rows end at `base`.
-    pub(crate) fn place(&self, base: u32, state: u32, width: u32) -> u32
-        requires homes { AreHomes self.now.order.items self.now.homes.items }
-        requires own { AreOwn self.now.order.items self.now.homes.items }
-        requires few { length self.now.order.items * width ≤ 63168 }
-        requires fits { base + state < 2 ^ 32 }
-        ensures { Stands self.now.order.items width base result state }
+    /// Where the rows end and the places of other states begin.
+    fn end(&self, width: u32) -> u32
+        requires { HaveRows self.now.order.items self.now.homes.items width }
+        ensures { result ≡ length self.now.order.items * width }
+    {
+        self.order.len() as u32 * width
+    }
+
+    /// The place of a state.
+    pub(crate) fn place(&self, state: u32, width: u32) -> u32
+        requires rows { HaveRows self.now.order.items self.now.homes.items width }
+        requires fits { state + 65536 < 2 ^ 32 }
+        ensures { Stands self.now.order.items width result state }
     {
         let index = state as usize;
         if index < self.homes.len() && self.homes[index] != NO_ROW {
             return self.homes[index] as u32 * width;
         }
-        base + state
+        self.end(width) + state
     }
 
     /// The slot of a step to this state, whose outputs begin at `position`: its place, which is
     /// even, plus 1 if there are outputs.
-    fn entry(&self, base: u32, state: u32, position: Option<NonZeroU32>, width: u32) -> u16
-        requires homes { AreHomes self.now.order.items self.now.homes.items }
-        requires own { AreOwn self.now.order.items self.now.homes.items }
-        requires base { base ≡ length self.now.order.items * width }
-        requires few { base ≤ 63168 }
-        requires wide { 0 < width }
-        requires even { (half : ℕ) × (width ≡ half * 2) }
-        requires fits { base + state < 2 ^ 32 }
-        ensures { IsEntry self.now.order.items width base state (position ≡ None) result }
+    fn entry(&self, state: u32, position: Option<NonZeroU32>, width: u32) -> u16
+        requires rows { HaveRows self.now.order.items self.now.homes.items width }
+        requires fits { state + 65536 < 2 ^ 32 }
+        ensures { IsEntry self.now.order.items width state (position ≡ None) result }
     {
-        let place = self.place(base, state, width);
-        if place >= base {
+        let place = self.place(state, width);
+        if place >= self.end(width) {
             return OUTSIDE;
         }
         match position {
@@ -118,10 +119,7 @@ where
     requires few { most < 65535 }
     ensures { IfOk result (λ chosen. MatchOption chosen
         (AreTooMany (A.sees automaton.now) (stands_by A.Label.number (A.labels automaton.now)) 2 most ⊎ (4294901760 < count))
-        (λ c. AreChosen (A.sees automaton.now) c.order.items c.homes.items most
-        × AreCovered (A.sees automaton.now) (stands_by A.Label.number (A.labels automaton.now)) 2 c.order.items
-        × (AreStepped (A.sees automaton.now) (stands_by A.Label.number (A.labels automaton.now)) (map A.Label.number labels.now) (length c.order.items) c.order.items
-        ⊎ ((n : ℕ) × AreTooMany (A.sees automaton.now) (stands_by A.Label.number (A.labels automaton.now)) n most)))) }
+        (λ c. IsChoice (A.sees automaton.now) (stands_by A.Label.number (A.labels automaton.now)) (map A.Label.number labels.now) c.order.items c.homes.items most)) }
 {
     if count > MOST_STATES {
         return Ok(None);
@@ -150,11 +148,8 @@ where
     requires count { (s : ℕ) → (A.sees automaton.now).reached s → s < count }
     requires fits { count ≤ 4294901760 }
     requires some { 0 < most }
-    ensures chosen { IfOk result (λ c. AreChosen (A.sees automaton.now) c.order.items c.homes.items most) }
-    ensures size { IfOk result (λ c. length c.homes.items ≡ count) }
-    ensures shallow { IfOk result (λ c. AreShallow (A.sees automaton.now) (stands_by A.Label.number (A.labels automaton.now)) 0 c.order.items) }
-    ensures covered { IfOk result (λ c. AreCovered (A.sees automaton.now) (stands_by A.Label.number (A.labels automaton.now)) 0 c.order.items) }
-    ensures root { IfOk result (λ c. (0 < length c.order.items) × ((A.sees automaton.now).text (slice_index c.order.items 0) ≡ [])) }
+    requires few { most < 65535 }
+    ensures { IfOk result (λ c. AreChosen (A.sees automaton.now) c.order.items c.homes.items most × (length c.order.items ≡ 1) × ((A.sees automaton.now).text (slice_index c.order.items 0) ≡ [])) }
 {
     let mut order = Vec::new(alloc);
     let mut homes = Vec::from_elem(alloc, NO_ROW, count as usize)?;
@@ -175,19 +170,8 @@ where
     A::Label: RowLabel,
     requires labels { AreLabels (A.sees automaton.now).content (stands_by A.Label.number (A.labels automaton.now)) (map A.Label.number labels.now) }
     requires chosen { AreChosen (A.sees automaton.now) chosen.old.order.items chosen.old.homes.items most }
-    requires count { (s : ℕ) → (A.sees automaton.now).reached s → s < length chosen.old.homes.items }
-    requires few { most < 65535 }
     requires root { (0 < length chosen.old.order.items) × ((A.sees automaton.now).text (slice_index chosen.old.order.items 0) ≡ []) }
-    ensures chosen { OnOk result (AreChosen (A.sees automaton.now) chosen.new.order.items chosen.new.homes.items most) }
-    ensures same { OnOk result (length chosen.new.homes.items ≡ length chosen.old.homes.items) }
-    ensures on { OnOk result (GoesOn chosen.old.order.items chosen.new.order.items) }
-    ensures stepped { IfOk result (λ all. all ≡ true → AreStepped (A.sees automaton.now) (stands_by A.Label.number (A.labels automaton.now)) (map A.Label.number labels.now) (length chosen.old.order.items) chosen.new.order.items) }
-    ensures shallow { OnOk result ((n : ℕ) → AreShallow (A.sees automaton.now) (stands_by A.Label.number (A.labels automaton.now)) n chosen.old.order.items
-        → AreShallow (A.sees automaton.now) (stands_by A.Label.number (A.labels automaton.now)) (n + 1) chosen.new.order.items) }
-    ensures all { IfOk result (λ all. all ≡ true → (n : ℕ) → AreCovered (A.sees automaton.now) (stands_by A.Label.number (A.labels automaton.now)) n chosen.old.order.items
-        → AreCovered (A.sees automaton.now) (stands_by A.Label.number (A.labels automaton.now)) (n + 1) chosen.new.order.items) }
-    ensures full { IfOk result (λ all. all ≡ false → (n : ℕ) → AreShallow (A.sees automaton.now) (stands_by A.Label.number (A.labels automaton.now)) n chosen.old.order.items
-        → AreTooMany (A.sees automaton.now) (stands_by A.Label.number (A.labels automaton.now)) (n + 1) most) }
+    ensures { IfOk result (IsRound (A.sees automaton.now) (stands_by A.Label.number (A.labels automaton.now)) (map A.Label.number labels.now) chosen.old.order.items chosen.new.order.items chosen.new.homes.items most (length chosen.old.order.items)) }
 {
     for at in 0..chosen.order.len() {
         if !choose_ends(automaton, labels, chosen, at, most)? {
@@ -209,13 +193,10 @@ where
     A::Label: RowLabel,
     requires labels { AreLabels (A.sees automaton.now).content (stands_by A.Label.number (A.labels automaton.now)) (map A.Label.number labels.now) }
     requires chosen { AreChosen (A.sees automaton.now) chosen.old.order.items chosen.old.homes.items most }
-    requires count { (s : ℕ) → (A.sees automaton.now).reached s → s < length chosen.old.homes.items }
-    requires few { most < 65535 }
     requires from { from ≤ length chosen.old.order.items }
     requires stepped { AreStepped (A.sees automaton.now) (stands_by A.Label.number (A.labels automaton.now)) (map A.Label.number labels.now) from chosen.old.order.items }
-    ensures chosen { OnOk result (AreChosen (A.sees automaton.now) chosen.new.order.items chosen.new.homes.items most) }
-    ensures on { OnOk result (GoesOn chosen.old.order.items chosen.new.order.items) }
-    ensures stepped { OnOk result ((n : ℕ) → AreShallow (A.sees automaton.now) (stands_by A.Label.number (A.labels automaton.now)) n chosen.old.order.items
+    ensures chosen { OnOk result (AreChosen (A.sees automaton.now) chosen.new.order.items chosen.new.homes.items most × GoesOn chosen.old.order.items chosen.new.order.items) }
+    ensures ends { OnOk result ((n : ℕ) → AreShallow (A.sees automaton.now) (stands_by A.Label.number (A.labels automaton.now)) n chosen.old.order.items
         → AreStepped (A.sees automaton.now) (stands_by A.Label.number (A.labels automaton.now)) (map A.Label.number labels.now) (length chosen.new.order.items) chosen.new.order.items
         ⊎ ((m : ℕ) × AreTooMany (A.sees automaton.now) (stands_by A.Label.number (A.labels automaton.now)) m most)) }
 {
@@ -242,21 +223,9 @@ where
     A::Label: RowLabel,
     requires labels { AreLabels (A.sees automaton.now).content (stands_by A.Label.number (A.labels automaton.now)) (map A.Label.number labels.now) }
     requires chosen { AreChosen (A.sees automaton.now) chosen.old.order.items chosen.old.homes.items most }
-    requires count { (s : ℕ) → (A.sees automaton.now).reached s → s < length chosen.old.homes.items }
     requires at { at < length chosen.old.order.items }
-    requires few { most < 65535 }
     requires stepped { AreStepped (A.sees automaton.now) (stands_by A.Label.number (A.labels automaton.now)) (map A.Label.number labels.now) at chosen.old.order.items }
-    ensures chosen { OnOk result (AreChosen (A.sees automaton.now) chosen.new.order.items chosen.new.homes.items most) }
-    ensures same { OnOk result (length chosen.new.homes.items ≡ length chosen.old.homes.items) }
-    ensures on { OnOk result (GoesOn chosen.old.order.items chosen.new.order.items) }
-    ensures shallow { OnOk result ((n : ℕ) → IsShallow (stands_by A.Label.number (A.labels automaton.now)) n ((A.sees automaton.now).text (slice_index chosen.old.order.items at))
-        → AreShallow (A.sees automaton.now) (stands_by A.Label.number (A.labels automaton.now)) (n + 1) chosen.old.order.items
-        → AreShallow (A.sees automaton.now) (stands_by A.Label.number (A.labels automaton.now)) (n + 1) chosen.new.order.items) }
-    ensures ends { IfOk result (λ all. all ≡ true → (j : ℕ) → j < length labels.now
-        → EndsInRow (A.sees automaton.now) (stands_by A.Label.number (A.labels automaton.now)) (slice_index chosen.old.order.items at) (slice_index (map A.Label.number labels.now) j) chosen.new.order.items) }
-    ensures full { IfOk result (λ all. all ≡ false → (n : ℕ) → IsShallow (stands_by A.Label.number (A.labels automaton.now)) n ((A.sees automaton.now).text (slice_index chosen.old.order.items at))
-        → AreShallow (A.sees automaton.now) (stands_by A.Label.number (A.labels automaton.now)) (n + 1) chosen.old.order.items
-        → AreTooMany (A.sees automaton.now) (stands_by A.Label.number (A.labels automaton.now)) (n + 1) most) }
+    ensures { IfOk result (IsRound (A.sees automaton.now) (stands_by A.Label.number (A.labels automaton.now)) (map A.Label.number labels.now) chosen.old.order.items chosen.new.order.items chosen.new.homes.items most (at + 1)) }
 {
     for k in 0..labels.len() {
         if let Some(next) = end_outside(automaton, labels, chosen, at, k) {
@@ -283,7 +252,6 @@ where
     A::Label: RowLabel,
     requires labels { AreLabels (A.sees automaton.now).content (stands_by A.Label.number (A.labels automaton.now)) (map A.Label.number labels.now) }
     requires chosen { (most : ℕ) × AreChosen (A.sees automaton.now) chosen.now.order.items chosen.now.homes.items most }
-    requires count { (s : ℕ) → (A.sees automaton.now).reached s → s < length chosen.now.homes.items }
     requires at { at < length chosen.now.order.items }
     requires k { k < length labels.now }
     requires stepped { AreStepped (A.sees automaton.now) (stands_by A.Label.number (A.labels automaton.now)) (map A.Label.number labels.now) at chosen.now.order.items }
@@ -346,10 +314,9 @@ where
     requires chosen { AreChosen (A.sees automaton.now) chosen.now.order.items chosen.now.homes.items (63168 / width) }
     requires width { width ≡ row_places (length labels.now) }
     ensures { IfOk result (λ top. AreWritten A.Unit.width (A.sees automaton.now) (stands_by A.Label.number (A.labels automaton.now))
-        (map A.Label.number labels.now) chosen.now.order.items width (length chosen.now.order.items * width) (length chosen.now.order.items) 0 top.items) }
+        (map A.Label.number labels.now) chosen.now.order.items width (length chosen.now.order.items) 0 top.items) }
 {
-    let base = chosen.order.len() as u32 * width;
-    let mut top = Vec::with_capacity(alloc, 2 * base as usize)?;
+    let mut top = Vec::with_capacity(alloc, 2 * chosen.end(width) as usize)?;
     for row in 0..chosen.order.len() {
         write_row(automaton, labels, chosen, width, row, &mut top)?;
     }
@@ -373,16 +340,15 @@ where
     requires width { width ≡ row_places (length labels.now) }
     requires row { row < length chosen.now.order.items }
     requires written { AreWritten A.Unit.width (A.sees automaton.now) (stands_by A.Label.number (A.labels automaton.now))
-        (map A.Label.number labels.now) chosen.now.order.items width (length chosen.now.order.items * width) row 0 top.old.items }
+        (map A.Label.number labels.now) chosen.now.order.items width row 0 top.old.items }
     ensures { OnOk result (AreWritten A.Unit.width (A.sees automaton.now) (stands_by A.Label.number (A.labels automaton.now))
-        (map A.Label.number labels.now) chosen.now.order.items width (length chosen.now.order.items * width) (row + 1) 0 top.new.items) }
+        (map A.Label.number labels.now) chosen.now.order.items width (row + 1) 0 top.new.items) }
 {
-    let base = chosen.order.len() as u32 * width;
     let state = chosen.order[row];
     let root = automaton.root();
     top.push((state % 65_536) as u16)?;
     top.push((state / 65_536) as u16)?;
-    top.push(chosen.entry(base, root, automaton.output_pos(root), width))?;
+    top.push(chosen.entry(root, automaton.output_pos(root), width))?;
     for k in 0..labels.len() {
         let entry = step_entry(automaton, labels, chosen, width, row, k, top.as_slice());
         top.push(entry)?;
@@ -411,16 +377,15 @@ where
     requires row { row < length chosen.now.order.items }
     requires k { k < length labels.now }
     requires written { AreWritten A.Unit.width (A.sees automaton.now) (stands_by A.Label.number (A.labels automaton.now))
-        (map A.Label.number labels.now) chosen.now.order.items width (length chosen.now.order.items * width) row (3 + k) top.now }
+        (map A.Label.number labels.now) chosen.now.order.items width row (3 + k) top.now }
     ensures { IsSlot A.Unit.width (A.sees automaton.now) (stands_by A.Label.number (A.labels automaton.now))
-        (map A.Label.number labels.now) chosen.now.order.items width (length chosen.now.order.items * width) row (3 + k) result }
+        (map A.Label.number labels.now) chosen.now.order.items width row (3 + k) result }
 {
     if let Some(before) = linked_row(automaton, labels, chosen, row, k) {
         return top[2 * (before * width as usize) + 3 + k];
     }
-    let base = chosen.order.len() as u32 * width;
     let state = chosen.order[row];
     let mut turns = Turns::new();
     let (next, position) = follow(automaton, state, labels[k], &mut turns);
-    chosen.entry(base, next, position, width)
+    chosen.entry(next, position, width)
 }

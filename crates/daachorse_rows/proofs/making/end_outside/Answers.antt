@@ -26,7 +26,7 @@ pub returns-then-index : goal.returns-then-index
 returns-then-index g c =
     let A = g.A.Automaton in let a = c.args.automaton.now in let homes = c.args.chosen.now.homes.items in let order = c.args.chosen.now.order.items in let next = c.follow-next.result.0 in
     let same = get_or_read order c.args.at c.index.result.now c.requires.at c.index.ensures 0 in
-    let home = get_or_read homes next c.index-2.result.now (c.requires.count next c.follow-next.ensures.reached) c.index-2.ensures 0 in (
+    let home = get_or_read homes next c.index-2.result.now (c.requires.chosen.1.inside next c.follow-next.ensures.reached) c.index-2.ensures 0 in (
       record {
         is_state = c.follow-next.ensures.reached;
         ends = ends_read g.A.Label.RowLabel.number (A.sees a) g.met.A.Label.RowLabel.exact (A.labels a) c.args.labels.now c.args.k c.index-labels-k.result (slice_index order c.args.at) c.index.result.now next c.requires.k c.index-labels-k.is same c.follow-next.ensures.ends;
@@ -39,7 +39,7 @@ returns g c =
     let A = g.A.Automaton in let a = c.args.automaton.now in let number = g.A.Label.RowLabel.number in
     let homes = c.args.chosen.now.homes.items in let order = c.args.chosen.now.order.items in let next = c.follow-next.result.0 in
     let same = get_or_read order c.args.at c.index.result.now c.requires.at c.index.ensures 0 in
-    let within = c.requires.count next c.follow-next.ensures.reached in
+    let within = c.requires.chosen.1.inside next c.follow-next.ensures.reached in
     let home = get_or_read homes next c.index-2.result.now within c.index-2.ensures 0 in
     let row = c.requires.chosen.1.homes next within (λ none. c.if-index.false (home ∙ none)) in
     let ends = ends_read number (A.sees a) g.met.A.Label.RowLabel.exact (A.labels a) c.args.labels.now c.args.k c.index-labels-k.result (slice_index order c.args.at) c.index.result.now next c.requires.k c.index-labels-k.is same c.follow-next.ensures.ends in

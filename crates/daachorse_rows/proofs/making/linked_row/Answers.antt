@@ -1,5 +1,5 @@
 -- The link is the state of a row before, and a step that follows the link ends as from there.
-use Rattle.std.proofs.Common.{◌<◌, ℕ, length, subst, sym, ap, ◌∙◌, arith}
+use Rattle.std.proofs.Common.{◌<◌, ℕ, length, subst, ap, ◌∙◌, arith}
 use Rattle.std.specs.Prelude.{slice_index}
 use Rattle.std.proofs.lemmas.List.{get_or_read}
 use Rattle.daachorse_search.specs.Views.{Steps}

@@ -1,14 +1,14 @@
 -- The rows are written one after the other.
-use Rattle.std.proofs.Common.{◌≡◌, ℕ, ◌*◌, length, map, ap, subst, arith}
+use Rattle.std.proofs.Common.{◌≡◌, ℕ, length, map, subst, arith}
 use Rattle.std.proofs.lemmas.Result.{IfOk-from_err}
 use Rattle.daachorse_rows.specs.Rows.{AreWritten, stands_by}
-use Rattle.daachorse_rows.proofs.MakingLaws.{AreWritten-none, fits_rows}
+use Rattle.daachorse_rows.proofs.MakingLaws.{AreWritten-none, HaveRows-chosen}
 use Rattle.daachorse_rows.proofs.making.write.Goals as goal
 
 pub loop-row-init : goal.loop-row-init
 loop-row-init g c =
     let A = g.A.Automaton in let a = c.args.automaton.now in let order = c.args.chosen.now.order.items in
-    AreWritten-none g.A.Unit.EdgeLabel.width (A.sees a) (stands_by g.A.Label.RowLabel.number (A.labels a)) (map g.A.Label.RowLabel.number c.args.labels.now) order c.args.width (length order * c.args.width) c.in_ok-top.top.items c.in_ok-top.ensures.items
+    AreWritten-none g.A.Unit.EdgeLabel.width (A.sees a) (stands_by g.A.Label.RowLabel.number (A.labels a)) (map g.A.Label.RowLabel.number c.args.labels.now) order c.args.width c.in_ok-top.top.items c.in_ok-top.ensures.items
 
 pub returns-in_err-top : goal.returns-in_err-top
 returns-in_err-top g c = IfOk-from_err c.from_residual.result _ c.from_residual.ensures.0
@@ -32,11 +32,8 @@ pub returns : goal.returns
 returns g c =
     let A = g.A.Automaton in let a = c.args.automaton.now in let order = c.args.chosen.now.order.items in
     let e : c.loop-row.row ≡ length order = omega (arith, c.loop-row-test.false, c.loop-row.auto.row-end, c.len-row-end.ensures, c.args.chosen.now.order.ok.0) in
-    let P : ℕ → Type 0 = λ n. AreWritten g.A.Unit.EdgeLabel.width (A.sees a) (stands_by g.A.Label.RowLabel.number (A.labels a)) (map g.A.Label.RowLabel.number c.args.labels.now) order c.args.width (length order * c.args.width) n 0 c.loop-row.top.items in
+    let P : ℕ → Type 0 = λ n. AreWritten g.A.Unit.EdgeLabel.width (A.sees a) (stands_by g.A.Label.RowLabel.number (A.labels a)) (map g.A.Label.RowLabel.number c.args.labels.now) order c.args.width n 0 c.loop-row.top.items in
     subst P e c.loop-row.invariant
 
-pub overflow_mul-base : goal.overflow_mul-base
-overflow_mul-base g c =
-    let order = c.args.chosen.now.order.items in
-    let e : c.len.result ≡ length order = omega (arith, c.len.ensures, c.args.chosen.now.order.ok.0) in
-    omega (arith, fits_rows (length order) c.args.width c.requires.chosen.few, ap (λ (n : ℕ). n * c.args.width) e)
+pub end-requires : goal.end-requires
+end-requires g c = HaveRows-chosen (g.A.Automaton.sees c.args.automaton.now) _ _ c.args.width (length c.args.labels.now) c.requires.width c.requires.chosen

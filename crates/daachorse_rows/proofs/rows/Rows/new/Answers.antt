@@ -1,11 +1,11 @@
 -- The rows are those of the chosen states as they were written, so they are right, cover what the choice covers, and are closed where each step from a chosen state ends at one.
-use Rattle.std.proofs.Common.{◌≡◌, ℕ, ◌*◌, inl, inr, length, map, refl, subst, sym, ap, ◌∙◌, arith}
+use Rattle.std.proofs.Common.{length, map, refl, sym, ap, ◌∙◌, arith}
 use Rattle.std.proofs.Math.Nat.{div-mul-le_self}
 use Rattle.std.proofs.lemmas.List.{length-map}
 use Rattle.std.proofs.lemmas.Result.{IfOk-from_err}
 use Rattle.std.proofs.lemmas.Option.{none-some, MatchOption-at_none, MatchOption-at_some}
-use Rattle.daachorse_rows.specs.Rows.{RowTable, Stands, row_places, stands_by}
-use Rattle.daachorse_rows.proofs.MakingLaws.{AreClosed-made, AreRows-made, Covers-made, fits_rows}
+use Rattle.daachorse_rows.specs.Rows.{RowTable, row_places, stands_by}
+use Rattle.daachorse_rows.proofs.MakingLaws.{HaveRows-chosen, Rows-made}
 use Rattle.daachorse_rows.proofs.ShallowLaws.{room_least}
 use Rattle.daachorse_rows.proofs.rows.Rows.new.Goals as goal
 
@@ -44,61 +44,27 @@ pub write-requires : goal.write-requires
 write-requires g c = record {
   labels = c.requires.labels;
   width = refl;
-  chosen = (MatchOption-at_some _ _ c.in-Some.chosen c.in-Some.is c.in_ok-chosen.ensures).0;
+  chosen = (MatchOption-at_some _ _ c.in-Some.chosen c.in-Some.is c.in_ok-chosen.ensures).chosen;
 }
 
 pub place-root-requires : goal.place-root-requires
 place-root-requires g c =
-    let width = row_places (length c.args.labels.now) in
-    let chosen = MatchOption-at_some _ _ c.in-Some.chosen c.in-Some.is c.in_ok-chosen.ensures in
-    record {
-      homes = chosen.0.homes;
-      own = chosen.0.own;
-      few = fits_rows (length c.in-Some.chosen.order.items) width chosen.0.few;
-      fits =
-          let order = c.in-Some.chosen.order.items in
-          let e : c.len-count.result ≡ length order = c.len-count.ensures ∙ c.in-Some.chosen.order.ok.0 in
-          omega (arith, fits_rows (length order) width chosen.0.few, chosen.0.fits c.root.result c.root.ensures.reached, ap (λ (n : ℕ). n * width) e);
-    }
-
-pub overflow_mul-count : goal.overflow_mul-count
-overflow_mul-count g c =
-    let width = row_places (length c.args.labels.now) in
-    let chosen = MatchOption-at_some _ _ c.in-Some.chosen c.in-Some.is c.in_ok-chosen.ensures in
-    let order = c.in-Some.chosen.order.items in
-    let e : c.len-count.result ≡ length order = c.len-count.ensures ∙ c.in-Some.chosen.order.ok.0 in
-    omega (arith, fits_rows (length order) width chosen.0.few, ap (λ (n : ℕ). n * width) e)
+    let chosen = (MatchOption-at_some _ _ c.in-Some.chosen c.in-Some.is c.in_ok-chosen.ensures).chosen in
+    record { rows = HaveRows-chosen (g.A.Automaton.sees c.args.automaton.now) _ _ _ (length c.args.labels.now) refl chosen; fits = chosen.fits c.root.result c.root.ensures.reached }
 
 pub overflow_cast-count : goal.overflow_cast-count
 overflow_cast-count g c =
-    let width = row_places (length c.args.labels.now) in
-    let chosen = MatchOption-at_some _ _ c.in-Some.chosen c.in-Some.is c.in_ok-chosen.ensures in
-    let order = c.in-Some.chosen.order.items in
-    let e : c.len-count.result ≡ length order = c.len-count.ensures ∙ c.in-Some.chosen.order.ok.0 in
-    omega (arith, e, chosen.0.few, div-mul-le_self 63168 width)
+    let chosen = (MatchOption-at_some _ _ c.in-Some.chosen c.in-Some.is c.in_ok-chosen.ensures).chosen in
+    omega (arith, c.len-count.ensures, c.in-Some.chosen.order.ok.0, chosen.few, chosen.room)
 
 pub returns : goal.returns
 returns g c =
-    let A = g.A.Automaton in let a = c.args.automaton.now in let order = c.in-Some.chosen.order.items in
+    let A = g.A.Automaton in let a = c.args.automaton.now in let number = g.A.Label.RowLabel.number in let order = c.in-Some.chosen.order.items in
     let width = row_places (length c.args.labels.now) in
     let r : RowTable = record { classes = c.in_ok-classes.classes.items; top = c.in_ok-top.top.items; homes = c.in-Some.chosen.homes.items; count = c.len-count.result; width = width; root = c.place-root.result } in
-    let S : ℕ → Type 0 = λ n. Stands order width (n * width) c.place-root.result c.root.result in
-    let e : c.len-count.result ≡ length order = c.len-count.ensures ∙ c.in-Some.chosen.order.ok.0 in
-    let stands = stands_by g.A.Label.RowLabel.number (A.labels a) in
-    let chosen = MatchOption-at_some _ _ c.in-Some.chosen c.in-Some.is c.in_ok-chosen.ensures in
-    record {
-      right =
-          AreRows-made g.A.Unit.EdgeLabel.width (A.sees a) stands (map g.A.Label.RowLabel.number c.args.labels.now) r order e (omega arith) c.in_ok-top.ensures
-          c.root.result (ap row_places (sym (length-map c.args.labels.now g.A.Label.RowLabel.number))) c.in_ok-classes.ensures chosen.0 (subst S e c.place-root.ensures) c.root.ensures.reached c.root.ensures.text;
-      covered = Covers-made g.A.Unit.EdgeLabel.width (A.sees a) stands (map g.A.Label.RowLabel.number c.args.labels.now) r order e (omega arith) c.in_ok-top.ensures 2 chosen.1;
-      -- where each step ends in a row the rows are closed, and else there are too many states
-      closed = λ may. elim chosen.2 [
-        | inl stepped ↦ inl (AreClosed-made g.A.Unit.EdgeLabel.width (A.sees a) stands (map g.A.Label.RowLabel.number c.args.labels.now) r order e (omega arith) c.in_ok-top.ensures
-            g.A.Label.RowLabel.most c.root.result (ap row_places (sym (length-map c.args.labels.now g.A.Label.RowLabel.number))) c.in_ok-classes.ensures c.requires.labels chosen.0.states (fits_rows (length order) width chosen.0.few) (subst S e c.place-root.ensures) c.root.ensures.reached c.root.ensures.text stepped may)
-        | inr many ↦ inr many
-      ];
-      none = λ none. absurd (none-some _ (sym none));
-    }
+    let made = Rows-made g.A.Unit.EdgeLabel.width (A.sees a) (stands_by number (A.labels a)) (map number c.args.labels.now) r order (c.len-count.ensures ∙ c.in-Some.chosen.order.ok.0) (omega arith) c.in_ok-top.ensures
+    (ap row_places (sym (length-map c.args.labels.now number))) c.in_ok-classes.ensures (MatchOption-at_some _ _ c.in-Some.chosen c.in-Some.is c.in_ok-chosen.ensures) c.root.result c.place-root.ensures c.root.ensures.reached c.root.ensures.text g.A.Label.RowLabel.most c.requires.labels in
+    record { right = made.0; covered = made.1; closed = made.2; none = λ none. absurd (none-some _ (sym none)) }
 
 pub choose-requires : goal.choose-requires
 choose-requires g c = record {

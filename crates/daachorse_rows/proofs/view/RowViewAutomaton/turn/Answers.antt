@@ -1,10 +1,9 @@
 -- A slot holds the end of its label's step, so one look at it tells what all looks of the automaton would; elsewhere the automaton looks itself, and its states are told as places.
-use Rattle.std.proofs.Common.{ℕ, ◌-◌, ◌%◌, List, refl, sym, ap, ◌∙◌, subst, arith}
-use Rattle.std.specs.Prelude.{None}
+use Rattle.std.proofs.Common.{ℕ, List, refl, sym, ◌∙◌, subst, arith}
 use Rattle.daachorse_core.specs.Looks.{IsFirstOutput}
 use Rattle.daachorse_core.specs.declared.turns.Look.TheVariants.{Next, Fail}
 use Rattle.daachorse_search.specs.Views.{HasFirst, SeesLook}
-use Rattle.daachorse_rows.specs.Rows.{Rowed, over_rows, stands_by}
+use Rattle.daachorse_rows.specs.Rows.{Rowed, stands_by}
 use Rattle.daachorse_rows.proofs.RowLaws.{look_below, look_link, look_loud, look_quiet, never_outside, output_quiet, reached_loud}
 use Rattle.daachorse_rows.proofs.view.RowViewAutomaton.turn.Goals.{then-place-end+then-number+else-entry-eq0+else-entry, else-place-end, else-place-end-via-then-place-end+else-number, else-place-end-via-else-place-end}
 use Rattle.daachorse_rows.proofs.view.RowViewAutomaton.turn.Goals as goal
@@ -12,36 +11,24 @@ use Rattle.daachorse_rows.proofs.view.RowViewAutomaton.turn.Goals as goal
 -- at a row, by the entry
 pub returns-then-entry-eq0-clause-look : goal.returns-then-entry-eq0-clause-look
 returns-then-entry-eq0-clause-look g c = λ unit coded.
-    let A = g.A.Automaton in let p = c.args.self.now in let at = c.slot-entry.ensures in
-    let sees = over_rows g.A.Label.RowLabel.most (A.sees p.automaton) (stands_by g.A.Label.RowLabel.number (A.labels p.automaton)) p.rows in
-    let P : ℕ → Type 0 = λ e. SeesLook sees c.args.state unit (Next e None) in
-    subst P (sym at) (look_quiet g.A.Unit.EdgeLabel.width (A.sees p.automaton) _ g.A.Label.RowLabel.most _ c.end.ensures.right c.args.state c.index-number.result c.requires.0 (omega (arith, c.if-place-end.true, c.end.ensures.end)) c.if-number.true
-    (λ none. omega (arith, c.if-entry-eq0.true, at, none)) (ap (λ n. n % 2) (sym at) ∙ c.if-entry-eq0.true) unit (c.args.label, sym c.index-number.ensures.is, coded))
+    let A = g.A.Automaton in let p = c.args.self.now in
+    look_quiet g.A.Unit.EdgeLabel.width (A.sees p.automaton) _ g.A.Label.RowLabel.most _ c.end.ensures.right c.args.state c.index-number.result c.slot-entry.result c.requires.0 (omega (arith, c.if-place-end.true, c.end.ensures.end)) c.if-number.true c.slot-entry.ensures (λ none. omega (arith, c.if-entry-eq0.true, none)) c.if-entry-eq0.true unit (c.args.label, sym c.index-number.ensures.is, coded)
 
 pub returns-then-entry-eq0-clause-output :
     goal.returns-then-entry-eq0-clause-output
 returns-then-entry-eq0-clause-output g c = λ unit coded.
-    let A = g.A.Automaton in let p = c.args.self.now in let at = c.slot-entry.ensures in
-    let sees = over_rows g.A.Label.RowLabel.most (A.sees p.automaton) (stands_by g.A.Label.RowLabel.number (A.labels p.automaton)) p.rows in
-    let P : ℕ → Type 0 = λ e. HasFirst g.A.Unit.EdgeLabel.width sees e None in
-    subst P (sym at) (output_quiet g.A.Unit.EdgeLabel.width (A.sees p.automaton) _ g.A.Label.RowLabel.most _ c.end.ensures.right c.args.state c.index-number.result c.requires.0 (omega (arith, c.if-place-end.true, c.end.ensures.end)) c.if-number.true
-    (λ none. omega (arith, c.if-entry-eq0.true, at, none)) (ap (λ n. n % 2) (sym at) ∙ c.if-entry-eq0.true))
+    let A = g.A.Automaton in let p = c.args.self.now in
+    output_quiet g.A.Unit.EdgeLabel.width (A.sees p.automaton) _ g.A.Label.RowLabel.most _ c.end.ensures.right c.args.state c.index-number.result c.slot-entry.result c.requires.0 (omega (arith, c.if-place-end.true, c.end.ensures.end)) c.if-number.true c.slot-entry.ensures (λ none. omega (arith, c.if-entry-eq0.true, none)) c.if-entry-eq0.true
 
 pub output_pos-requires : goal.output_pos-requires
 output_pos-requires g c =
-    let A = g.A.Automaton in let p = c.args.self.now in let at = c.slot-entry.ensures in
-    let sees = over_rows g.A.Label.RowLabel.most (A.sees p.automaton) (stands_by g.A.Label.RowLabel.number (A.labels p.automaton)) p.rows in
-    let P : ℕ → Type 0 = λ e. sees.reached (e - 1) in
-    subst P (sym at) (reached_loud g.A.Unit.EdgeLabel.width (A.sees p.automaton) _ g.A.Label.RowLabel.most _ c.end.ensures.right c.args.state c.index-number.result c.requires.0 (omega (arith, c.if-place-end.true, c.end.ensures.end)) c.if-number.true
-    (λ none. c.if-entry.true (at ∙ none)) (λ even. c.if-entry-eq0.false (ap (λ n. n % 2) at ∙ even)))
+    let A = g.A.Automaton in let p = c.args.self.now in
+    reached_loud g.A.Unit.EdgeLabel.width (A.sees p.automaton) _ g.A.Label.RowLabel.most _ c.end.ensures.right c.args.state c.index-number.result c.slot-entry.result c.requires.0 (omega (arith, c.if-place-end.true, c.end.ensures.end)) c.if-number.true c.slot-entry.ensures c.if-entry.true c.if-entry-eq0.false
 
 pub returns-then-entry-clause-look : goal.returns-then-entry-clause-look
 returns-then-entry-clause-look g c = λ unit coded.
-    let A = g.A.Automaton in let p = c.args.self.now in let at = c.slot-entry.ensures in
-    let sees = over_rows g.A.Label.RowLabel.most (A.sees p.automaton) (stands_by g.A.Label.RowLabel.number (A.labels p.automaton)) p.rows in
-    let P : ℕ → Type 0 = λ e. SeesLook sees c.args.state unit (Next (e - 1) None) in
-    subst P (sym at) (look_loud g.A.Unit.EdgeLabel.width (A.sees p.automaton) _ g.A.Label.RowLabel.most _ c.end.ensures.right c.args.state c.index-number.result c.requires.0 (omega (arith, c.if-place-end.true, c.end.ensures.end)) c.if-number.true
-    (λ none. c.if-entry.true (at ∙ none)) (λ even. c.if-entry-eq0.false (ap (λ n. n % 2) at ∙ even)) unit (c.args.label, sym c.index-number.ensures.is, coded))
+    let A = g.A.Automaton in let p = c.args.self.now in
+    look_loud g.A.Unit.EdgeLabel.width (A.sees p.automaton) _ g.A.Label.RowLabel.most _ c.end.ensures.right c.args.state c.index-number.result c.slot-entry.result c.requires.0 (omega (arith, c.if-place-end.true, c.end.ensures.end)) c.if-number.true c.slot-entry.ensures c.if-entry.true c.if-entry-eq0.false unit (c.args.label, sym c.index-number.ensures.is, coded)
 
 -- below the rows, by a label with no slot, and where a slot tells nothing: what the automaton's own look tells
 pub turn-requires : goal.turn-requires

@@ -1,7 +1,6 @@
 -- Each of two rounds from the root gives rows to the ends of all steps from rows, so that rows cover the texts of at most two units; a round that finds no room shows that such states are too many.
 use Rattle.std.proofs.Common.{◌≡◌, ◌≤◌, ℕ, List, [], ◌∷◌, inl, length, map, refl, sym, ap, ◌∙◌, arith}
 use Rattle.std.specs.Prelude.{slice_index}
-use Rattle.std.proofs.lemmas.Result.{IfOk-from_err}
 use Rattle.daachorse_search.specs.Views.{AutomatonView}
 use Rattle.daachorse_rows.specs.Rows.{AreCovered, AreNear, stands_by}
 use Rattle.daachorse_rows.proofs.ShallowLaws.{AreCovered-next, AreCovered-on, AreNear-all, AreStepped-fewer, AreTooMany-weaker, IsShallow-none}
@@ -25,14 +24,8 @@ choose_root-requires-clause-count g c = c.requires.count
 pub choose_root-requires-clause-some : goal.choose_root-requires-clause-some
 choose_root-requires-clause-some g c = c.requires.some
 
-pub returns-in_err-chosen : goal.returns-in_err-chosen
-returns-in_err-chosen g c = IfOk-from_err c.from_residual.result _ c.from_residual.ensures.0
-
 pub choose_next-requires : goal.choose_next-requires
 choose_next-requires g c = let root = c.in_ok-chosen.ensures in record { labels = c.requires.labels; chosen = root.0; root = (omega (arith, root.1), root.2) }
-
-pub returns-in_err-choose_next : goal.returns-in_err-choose_next
-returns-in_err-choose_next g c = IfOk-from_err c.from_residual-in_err-choose_next.result _ c.from_residual-in_err-choose_next.ensures.0
 
 pub returns-then-not-branch : goal.returns-then-not-branch
 returns-then-not-branch g c =
@@ -41,9 +34,6 @@ returns-then-not-branch g c =
 
 pub choose_next-requires-2 : goal.choose_next-requires-2
 choose_next-requires-2 g c = let round = c.in_ok-choose_next.ensures in record { labels = c.requires.labels; chosen = round.added.chosen; root = (round.stepped c.if-not-branch.false).root }
-
-pub returns-in_err-choose_next-2 : goal.returns-in_err-choose_next-2
-returns-in_err-choose_next-2 g c = IfOk-from_err c.from_residual-in_err-choose_next-2.result _ c.from_residual-in_err-choose_next-2.ensures.0
 
 pub returns-then-not-branch-2 : goal.returns-then-not-branch-2
 returns-then-not-branch-2 g c =
@@ -60,9 +50,6 @@ choose_rest-requires g c = record {
   labels = c.requires.labels;
   chosen = c.in_ok-choose_next-2.ensures.added.chosen;
 }
-
-pub returns-in_err-choose_rest : goal.returns-in_err-choose_rest
-returns-in_err-choose_rest g c = IfOk-from_err c.from_residual-in_err-choose_rest.result _ c.from_residual-in_err-choose_rest.ensures.0
 
 pub returns : goal.returns
 returns g c =

@@ -3,7 +3,6 @@ use Rattle.std.proofs.Common.{◌≡◌, ◌+◌, ◌<◌, ℕ, length, map, sub
 use Rattle.std.specs.Prelude.{slice_set}
 use Rattle.std.proofs.lemmas.Bool.{false≢true}
 use Rattle.std.proofs.lemmas.Option.{MatchOption-at_none, MatchOption-at_some}
-use Rattle.std.proofs.lemmas.Result.{IfOk-from_err}
 use Rattle.std.proofs.lemmas.List.{length-map}
 use Rattle.daachorse_rows.specs.Rows.{stands_by}
 use Rattle.daachorse_rows.proofs.ShallowLaws.{AreAdded-none, AreAdded-push, AreStepped-more, AreStepped-on, AreTooMany-next, GoesOn-push, Row, Row-more, Row-none, Row-push}
@@ -58,9 +57,6 @@ returns-then-len-most g c = record {
       let full : length order ≡ c.args.most = omega (arith, c.if-len-most.true, c.len.ensures, c.loop-k.chosen.order.ok.0) in
       AreTooMany-next (A.sees a) (stands_by number (A.labels a)) c.args.most (map number c.args.labels.now) c.requires.labels c.args.at c.loop-k.k listed c.args.chosen.now.order.items order c.loop-k.chosen.homes.items c.loop-k.invariant.added c.in-Some.next found.0 found.1 full;
 }
-
-pub returns-in_err-push : goal.returns-in_err-push
-returns-in_err-push g c = IfOk-from_err c.from_residual.result _ c.from_residual.ensures.0
 
 pub returns : goal.returns
 returns g c =

@@ -1,7 +1,6 @@
 -- Row after row gets the ends of its steps; where one end finds no room, the states so near the root are too many.
 use Rattle.std.proofs.Common.{◌≡◌, ◌+◌, ◌<◌, length, map, sym, arith}
 use Rattle.std.proofs.lemmas.Bool.{false≢true}
-use Rattle.std.proofs.lemmas.Result.{IfOk-from_err}
 use Rattle.daachorse_rows.specs.Rows.{stands_by}
 use Rattle.daachorse_rows.proofs.ShallowLaws.{AreAdded-none, AreAdded-through, AreStepped-fewer, AreStepped-none}
 use Rattle.daachorse_rows.proofs.making.choose_next.Goals as goal
@@ -29,9 +28,6 @@ choose_ends-requires g c = record {
   at = omega (arith, c.loop-at-test.true, c.loop-at.auto.at-end, c.len-at-end.ensures, c.args.chosen.now.order.ok.0, c.loop-at.invariant.added.on.more);
   stepped = c.loop-at.invariant.stepped;
 }
-
-pub returns-in_err-choose_ends : goal.returns-in_err-choose_ends
-returns-in_err-choose_ends g c = IfOk-from_err c.from_residual.result _ c.from_residual.ensures.0
 
 pub returns-then-not-branch : goal.returns-then-not-branch
 returns-then-not-branch g c =

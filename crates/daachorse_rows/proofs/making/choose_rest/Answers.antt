@@ -1,6 +1,5 @@
 -- Each row's steps end in rows, one row after the other, or there are too many states.
 use Rattle.std.proofs.Common.{◌+◌, ◌<◌, inl, inr, length, map, arith}
-use Rattle.std.proofs.lemmas.Result.{IfOk-from_err}
 use Rattle.daachorse_rows.specs.Rows.{stands_by}
 use Rattle.daachorse_rows.proofs.ShallowLaws.{AreNear-all, AreStepped-fewer, GoesOn-same, GoesOn-through}
 use Rattle.daachorse_rows.proofs.making.choose_rest.Goals as goal
@@ -27,9 +26,6 @@ choose_ends-requires g c = record {
   at = omega (arith, c.loop-at-test.true, c.len.ensures, c.loop-at.chosen.order.ok.0);
   stepped = c.loop-at.invariant.stepped;
 }
-
-pub returns-in_err-choose_ends : goal.returns-in_err-choose_ends
-returns-in_err-choose_ends g c = record { chosen = IfOk-from_err c.from_residual.result _ c.from_residual.ensures.0; ends = IfOk-from_err c.from_residual.result _ c.from_residual.ensures.0 }
 
 pub returns-then-not-branch : goal.returns-then-not-branch
 returns-then-not-branch g c =

@@ -1,7 +1,6 @@
 -- The root alone has a row.
 use Rattle.std.proofs.Common.{◌≡◌, ℕ, List, [], ◌∷◌, ◌++◌, ◌<◌, ◌≤◌, length, replicate, sym, ap, ◌∙◌, arith, length-append}
 use Rattle.std.specs.Prelude.{slice_index, slice_set}
-use Rattle.std.proofs.lemmas.Result.{IfOk-from_err}
 use Rattle.std.proofs.lemmas.List.{get_or-replicate, length-replicate}
 use Rattle.daachorse_search.specs.Views.{AutomatonView}
 use Rattle.daachorse_rows.specs.Rows.{AreChosen}
@@ -19,12 +18,6 @@ AreChosen-one view none order homes count most s empty is same below small some 
       omega (arith, ap length is, length-append none (s ∷ []), at_none),
       read-new none order s 0 is (sym at_none),
     )
-
-pub returns-in_err-homes : goal.returns-in_err-homes
-returns-in_err-homes g c = IfOk-from_err c.from_residual.result _ c.from_residual.ensures.0
-
-pub returns-in_err-push : goal.returns-in_err-push
-returns-in_err-push g c = IfOk-from_err c.from_residual-in_err-push.result _ c.from_residual-in_err-push.ensures.0
 
 pub returns : goal.returns
 returns g c =

@@ -1,6 +1,5 @@
 -- The rows are written one after the other.
 use Rattle.std.proofs.Common.{◌≡◌, ℕ, length, map, subst, arith}
-use Rattle.std.proofs.lemmas.Result.{IfOk-from_err}
 use Rattle.daachorse_rows.specs.Rows.{AreWritten, stands_by}
 use Rattle.daachorse_rows.proofs.MakingLaws.{AreWritten-none, HaveRows-chosen}
 use Rattle.daachorse_rows.proofs.making.write.Goals as goal
@@ -10,9 +9,6 @@ loop-row-init g c =
     let A = g.A.Automaton in let a = c.args.automaton.now in let order = c.args.chosen.now.order.items in
     AreWritten-none g.A.Unit.EdgeLabel.width (A.sees a) (stands_by g.A.Label.RowLabel.number (A.labels a)) (map g.A.Label.RowLabel.number c.args.labels.now) order c.args.width c.in_ok-top.top.items c.in_ok-top.ensures.items
 
-pub returns-in_err-top : goal.returns-in_err-top
-returns-in_err-top g c = IfOk-from_err c.from_residual.result _ c.from_residual.ensures.0
-
 pub write_row-requires : goal.write_row-requires
 write_row-requires g c = record {
   labels = c.requires.labels;
@@ -21,9 +17,6 @@ write_row-requires g c = record {
   row = omega (arith, c.loop-row-test.true, c.loop-row.auto.row-end, c.len-row-end.ensures, c.args.chosen.now.order.ok.0);
   written = c.loop-row.invariant;
 }
-
-pub returns-in_err-write_row : goal.returns-in_err-write_row
-returns-in_err-write_row g c = IfOk-from_err c.from_residual-in_err-write_row.result _ c.from_residual-in_err-write_row.ensures.0
 
 pub loop-row-preserved : goal.loop-row-preserved
 loop-row-preserved g c = c.in_ok-write_row.ensures

@@ -1,7 +1,6 @@
 -- A step by a listed label ends where `follow` tells, and one by a label that no key has at the root, so each slot holds the place of the state to which its label leads.
 use Rattle.std.proofs.Common.{◌≡◌, ℕ, List, ◌+◌, ◌/◌, ◌%◌, length, map, ap, subst, refl, sym, ◌∙◌, arith}
 use Rattle.std.proofs.Math.Nat.{mul_assoc}
-use Rattle.std.proofs.lemmas.Result.{IfOk-from_err}
 use Rattle.std.proofs.lemmas.List.{get_or_read, length-map}
 use Rattle.daachorse_rows.specs.Rows.{AreWritten, row_places, stands_by}
 use Rattle.daachorse_rows.proofs.MakingLaws.{AreWritten-next, AreWritten-push, HaveRows-chosen, slot_foreign}
@@ -48,23 +47,11 @@ returns g c =
     (c.requires.width ∙ ap row_places all) (omega (arith, c.loop-k-test.false, c.loop-k.auto.k-end, all)) (omega (arith, c.in_ok-resize.ensures.len, c.resize.new.self.ok.0, whole))
     (λ i below. c.in_ok-resize.ensures.by_index.0 i 0 (omega (arith, below, c.loop-k.invariant.size, c.loop-k-test.false, c.loop-k.auto.k-end, c.requires.width, whole, next_row c.args.row c.args.width)) (omega (arith, below, c.loop-k.top.ok.0)))
 
-pub returns-in_err-resize : goal.returns-in_err-resize
-returns-in_err-resize g c = IfOk-from_err c.from_residual-in_err-resize.result _ c.from_residual-in_err-resize.ensures.0
-
 pub index-state-requires : goal.index-state-requires
 index-state-requires g c = omega (arith, c.requires.row, c.args.chosen.now.order.ok.0)
 
 pub output_pos-requires : goal.output_pos-requires
 output_pos-requires g c = c.root-root.ensures.reached
-
-pub returns-in_err-push : goal.returns-in_err-push
-returns-in_err-push g c = IfOk-from_err c.from_residual.result _ c.from_residual.ensures.0
-
-pub returns-in_err-push-2 : goal.returns-in_err-push-2
-returns-in_err-push-2 g c = IfOk-from_err c.from_residual-in_err-push-2.result _ c.from_residual-in_err-push-2.ensures.0
-
-pub returns-in_err-push-3 : goal.returns-in_err-push-3
-returns-in_err-push-3 g c = IfOk-from_err c.from_residual-in_err-push-3.result _ c.from_residual-in_err-push-3.ensures.0
 
 pub entry-requires : goal.entry-requires
 entry-requires g c = record {

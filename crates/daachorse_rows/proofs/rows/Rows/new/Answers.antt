@@ -2,7 +2,6 @@
 use Rattle.std.proofs.Common.{length, map, refl, sym, ap, ◌∙◌, arith}
 use Rattle.std.proofs.Math.Nat.{div-mul-le_self}
 use Rattle.std.proofs.lemmas.List.{length-map}
-use Rattle.std.proofs.lemmas.Result.{IfOk-from_err}
 use Rattle.std.proofs.lemmas.Option.{none-some, MatchOption-at_none, MatchOption-at_some}
 use Rattle.daachorse_rows.specs.Rows.{RowTable, row_places, stands_by}
 use Rattle.daachorse_rows.proofs.MakingLaws.{HaveRows-chosen, Rows-made}
@@ -11,30 +10,6 @@ use Rattle.daachorse_rows.proofs.rows.Rows.new.Goals as goal
 
 pub slots_of-requires : goal.slots_of-requires
 slots_of-requires g c = c.requires.few
-
-pub returns-in_err-classes : goal.returns-in_err-classes
-returns-in_err-classes g c = record {
-  right = IfOk-from_err c.from_residual.result _ c.from_residual.ensures.0;
-  covered = IfOk-from_err c.from_residual.result _ c.from_residual.ensures.0;
-  closed = IfOk-from_err c.from_residual.result _ c.from_residual.ensures.0;
-  none = IfOk-from_err c.from_residual.result _ c.from_residual.ensures.0;
-}
-
-pub returns-in_err-chosen : goal.returns-in_err-chosen
-returns-in_err-chosen g c = record {
-  right = IfOk-from_err c.from_residual-in_err-chosen.result _ c.from_residual-in_err-chosen.ensures.0;
-  covered = IfOk-from_err c.from_residual-in_err-chosen.result _ c.from_residual-in_err-chosen.ensures.0;
-  closed = IfOk-from_err c.from_residual-in_err-chosen.result _ c.from_residual-in_err-chosen.ensures.0;
-  none = IfOk-from_err c.from_residual-in_err-chosen.result _ c.from_residual-in_err-chosen.ensures.0;
-}
-
-pub returns-in_err-top : goal.returns-in_err-top
-returns-in_err-top g c = record {
-  right = IfOk-from_err c.from_residual-in_err-top.result _ c.from_residual-in_err-top.ensures.0;
-  covered = IfOk-from_err c.from_residual-in_err-top.result _ c.from_residual-in_err-top.ensures.0;
-  closed = IfOk-from_err c.from_residual-in_err-top.result _ c.from_residual-in_err-top.ensures.0;
-  none = IfOk-from_err c.from_residual-in_err-top.result _ c.from_residual-in_err-top.ensures.0;
-}
 
 pub returns-in_default-clause-none : goal.returns-in_default-clause-none
 returns-in_default-clause-none g c = λ _.

@@ -3,10 +3,26 @@ use Rattle.std.proofs.Common.{ℕ, List, refl, sym, ◌∙◌, subst, arith}
 use Rattle.daachorse_core.specs.Looks.{IsFirstOutput}
 use Rattle.daachorse_core.specs.declared.turns.Look.TheVariants.{Next, Fail}
 use Rattle.daachorse_search.specs.Views.{HasFirst, SeesLook}
-use Rattle.daachorse_rows.specs.Rows.{Rowed, stands_by}
+use Rattle.daachorse_rows.specs.Rows.{AreClosed, Rowed, stands_by}
 use Rattle.daachorse_rows.proofs.RowLaws.{look_below, look_link, look_loud, look_quiet, never_outside, output_quiet, reached_loud}
-use Rattle.daachorse_rows.proofs.view.RowViewAutomaton.turn.Goals.{then-place-end+then-number+else-entry-eq0+else-entry, else-place-end, else-place-end-via-then-place-end+else-number, else-place-end-via-else-place-end}
+use Rattle.daachorse_rows.proofs.view.RowViewAutomaton.turn.Goals.{After-state, then-place-end+then-number+else-entry-eq0+else-entry, else-place-end, else-place-end-via-then-place-end+else-number, else-place-end-via-else-place-end}
 use Rattle.daachorse_rows.proofs.view.RowViewAutomaton.turn.Goals as goal
+
+-- where the rows are closed, no look is below them, and each slot tells where its step ends
+never_below : (g : _) (c : After-state g) → AreClosed g.A.Label.RowLabel.most (stands_by g.A.Label.RowLabel.number (g.A.Automaton.labels c.args.self.now.automaton)) c.args.self.now.rows
+    → (unit : ℕ) → g.A.Automaton.labels c.args.self.now.automaton c.args.label unit → ⊥
+never_below g c closed unit coded =
+    let A = g.A.Automaton in let p = c.args.self.now in let a = p.automaton in
+    let low = closed.slots (g.A.Label.RowLabel.number c.args.label) unit c.index-number.ensures.below (c.args.label, refl, coded) in
+    elim c.if-place-end.branch [
+      | then-place-end+then-number+else-entry-eq0+else-entry w ↦
+          absurd (never_outside g.A.Unit.EdgeLabel.width (A.sees a) _ g.A.Label.RowLabel.most p.rows c.end.ensures.right c.args.state c.index-number.result c.requires.0 (c.requires.2 closed) w.if-number.true closed (sym w.slot-entry.ensures ∙ w.if-entry.false))
+      | else-place-end v ↦
+          elim v.else-place-end.branch [
+            | else-place-end-via-then-place-end+else-number w ↦ absurd (omega (arith, w.if-number.false, c.index-number.ensures.is, low))
+            | else-place-end-via-else-place-end w ↦ absurd (omega (arith, w.if-place-end.false, c.end.ensures.end, c.requires.2 closed))
+          ]
+    ]
 
 -- at a row, by the entry
 pub returns-then-entry-eq0-clause-look : goal.returns-then-entry-eq0-clause-look
@@ -47,17 +63,7 @@ returns-in-Next-clause-look g c = λ unit coded.
     let Q : ℕ → Type 0 = λ x. SeesLook (A.sees a) x unit told in
     let look = subst Q c.state.ensures (own coded) in
     look_below (A.sees a) (stands_by g.A.Label.RowLabel.number (A.labels a)) g.A.Label.RowLabel.most p.rows c.args.state unit c.in-Next.next c.place_below.result
-    (λ closed.
-    let low = closed.slots (g.A.Label.RowLabel.number c.args.label) unit c.index-number.ensures.below (c.args.label, refl, coded) in
-    elim c.if-place-end.branch [
-      | then-place-end+then-number+else-entry-eq0+else-entry w ↦
-          absurd (never_outside g.A.Unit.EdgeLabel.width (A.sees a) _ g.A.Label.RowLabel.most p.rows c.end.ensures.right c.args.state c.index-number.result c.requires.0 (c.requires.2 closed) w.if-number.true closed (sym w.slot-entry.ensures ∙ w.if-entry.false))
-      | else-place-end v ↦
-          elim v.else-place-end.branch [
-            | else-place-end-via-then-place-end+else-number w ↦ absurd (omega (arith, w.if-number.false, c.index-number.ensures.is, low))
-            | else-place-end-via-else-place-end w ↦ absurd (omega (arith, w.if-place-end.false, c.end.ensures.end, c.requires.2 closed))
-          ]
-    ])
+    (λ closed. absurd (never_below g (goal.at.returns-in-Next-clause-look g c).After-state closed unit coded))
     c.in-Next.position (c.place_below.ensures look.0) look
 
 pub returns-in-Next-clause-output : goal.returns-in-Next-clause-output
@@ -77,30 +83,8 @@ returns-in-Fail-clause-look g c = λ unit coded.
     let Q : ℕ → Type 0 = λ x. SeesLook (A.sees a) x unit told in
     let look = subst Q c.state.ensures (own coded) in
     look_link (A.sees a) (stands_by g.A.Label.RowLabel.number (A.labels a)) g.A.Label.RowLabel.most p.rows c.args.state unit c.in-Fail.link c.place.result
-    (λ closed.
-    let low = closed.slots (g.A.Label.RowLabel.number c.args.label) unit c.index-number.ensures.below (c.args.label, refl, coded) in
-    elim c.if-place-end.branch [
-      | then-place-end+then-number+else-entry-eq0+else-entry w ↦
-          absurd (never_outside g.A.Unit.EdgeLabel.width (A.sees a) _ g.A.Label.RowLabel.most p.rows c.end.ensures.right c.args.state c.index-number.result c.requires.0 (c.requires.2 closed) w.if-number.true closed (sym w.slot-entry.ensures ∙ w.if-entry.false))
-      | else-place-end v ↦
-          elim v.else-place-end.branch [
-            | else-place-end-via-then-place-end+else-number w ↦ absurd (omega (arith, w.if-number.false, c.index-number.ensures.is, low))
-            | else-place-end-via-else-place-end w ↦ absurd (omega (arith, w.if-place-end.false, c.end.ensures.end, c.requires.2 closed))
-          ]
-    ])
+    (λ closed. absurd (never_below g (goal.at.returns-in-Fail-clause-look g c).After-state closed unit coded))
     (c.place.ensures look.0) look
 
--- where the rows are closed, no look is below them, and each slot tells where its step ends
 pub returns-in-Fail-clause-single : goal.returns-in-Fail-clause-single
-returns-in-Fail-clause-single g c = λ closed unit link coded _.
-    let A = g.A.Automaton in let p = c.args.self.now in let a = p.automaton in
-    let low = closed.slots (g.A.Label.RowLabel.number c.args.label) unit c.index-number.ensures.below (c.args.label, refl, coded) in
-    elim c.if-place-end.branch [
-      | then-place-end+then-number+else-entry-eq0+else-entry w ↦
-          never_outside g.A.Unit.EdgeLabel.width (A.sees a) _ g.A.Label.RowLabel.most p.rows c.end.ensures.right c.args.state c.index-number.result c.requires.0 (c.requires.2 closed) w.if-number.true closed (sym w.slot-entry.ensures ∙ w.if-entry.false)
-      | else-place-end v ↦
-          elim v.else-place-end.branch [
-            | else-place-end-via-then-place-end+else-number w ↦ absurd (omega (arith, w.if-number.false, c.index-number.ensures.is, low))
-            | else-place-end-via-else-place-end w ↦ absurd (omega (arith, w.if-place-end.false, c.end.ensures.end, c.requires.2 closed))
-          ]
-    ]
+returns-in-Fail-clause-single g c = λ closed unit link coded _. never_below g (goal.at.returns-in-Fail-clause-single g c).After-state closed unit coded

@@ -9,7 +9,7 @@
 //! it keeps the child by that label of the nearest place on the way back. This child is near, and
 //! is the right link of the next child by the label.
 
-ghost use Rattle.std.specs.Prelude.{◌≡◌, ℕ, ◌<◌, ◌≤◌, ◌^◌, length, cond, true, false, IfOk, IfErr};
+ghost use Rattle.std.specs.Prelude.{◌≡◌, ◌↔◌, ℕ, IsTrue, ◌<◌, ◌≤◌, ◌^◌, length, cond, IfOk, IfErr};
 ghost use Rattle.daachorse_core.specs.Refusals.{IsOutOfMemory};
 ghost use Rattle.daachorse_array.specs.Places.{IsOrder, IsTrieOfPlaces, HasLinks, LinksFall, AreStarts, stop};
 ghost use Rattle.daachorse_array.specs.Near.{up, near, top, above, root_value, or_top, IsAbove, AreNear, IsChecked, IsSaved};
@@ -37,18 +37,14 @@ impl<A: Allocator + Copy> Trie<A> {
     /// Whether each link but the root's is dead or leads to an earlier place.
     fn links_fall(&self) -> bool
         requires few { length self.now.fails.items < 2 ^ 32 }
-        ensures yes { result ≡ true → LinksFall self.now.fails.items }
-        ensures no { result ≡ false → LinksFall self.now.fails.items → ⊥ }
+        ensures { IsTrue result ↔ LinksFall self.now.fails.items }
     {
-        let mut m: u32 = 1;
-        while (m as usize) < self.fails.len() {
+        let count = self.fails.len() as u32;
+        for m in 1..count {
             let fail = self.fails[m as usize];
-            if fail >= m {
-                if fail as usize != self.fails.len() {
-                    return false;
-                }
+            if fail >= m && fail != count {
+                return false;
             }
-            m += 1;
         }
         true
     }
@@ -74,13 +70,11 @@ impl<A: Allocator + Copy> Trie<A> {
     {
         let count = self.parents.len() as u32;
         let mut starts = Vec::with_capacity(alloc, self.parents.len())?;
-        let mut m: u32 = 1;
-        while m < count {
+        for m in 1..count {
             let parent = self.parents[m as usize];
             while starts.len() <= parent as usize {
                 starts.push(m)?;
             }
-            m += 1;
         }
         while starts.len() <= count as usize {
             starts.push(count)?;
@@ -98,12 +92,10 @@ impl<A: Allocator + Copy> Trie<A> {
     {
         let count = self.fails.len() as u32;
         let mut next = vec![in alloc; count; self.fails.len() + 1]?;
-        let mut m: u32 = 0;
-        while m < count {
+        for m in 0..count {
             let above = self.above(m);
             next[m as usize] = next[above as usize];
             next[above as usize] = m;
-            m += 1;
         }
         Ok(next)
     }
@@ -161,15 +153,13 @@ impl<A: Allocator + Copy> Trie<A> {
         requires size { length saved.old.items ≡ length self.now.parents.items }
         ensures same { length near.new.items ≡ length near.old.items }
         ensures size { length saved.new.items ≡ length saved.old.items }
-        ensures checked { result ≡ true → IsChecked self.now.parents.items self.now.labels.items self.now.stops.items self.now.fails.items p }
-        ensures near { result ≡ true → AreNear self.now.parents.items self.now.labels.items self.now.fails.items near.new.items p }
-        ensures saved { result ≡ true → IsSaved self.now.parents.items self.now.labels.items self.now.fails.items saved.new.items p }
-        ensures kept { result ≡ true → (q : ℕ) → IsSaved self.now.parents.items self.now.labels.items self.now.fails.items saved.old.items q → IsSaved self.now.parents.items self.now.labels.items self.now.fails.items saved.new.items q }
-        ensures no { result ≡ false → IsChecked self.now.parents.items self.now.labels.items self.now.stops.items self.now.fails.items p → ⊥ }
+        ensures checked { IsTrue result ↔ IsChecked self.now.parents.items self.now.labels.items self.now.stops.items self.now.fails.items p }
+        ensures near { IsTrue result → AreNear self.now.parents.items self.now.labels.items self.now.fails.items near.new.items p }
+        ensures saved { IsTrue result → IsSaved self.now.parents.items self.now.labels.items self.now.fails.items saved.new.items p }
+        ensures kept { IsTrue result → (q : ℕ) → IsSaved self.now.parents.items self.now.labels.items self.now.fails.items saved.old.items q → IsSaved self.now.parents.items self.now.labels.items self.now.fails.items saved.new.items q }
     {
         let end = starts[p as usize + 1];
-        let mut m = starts[p as usize];
-        while m < end {
+        for m in starts[p as usize]..end {
             let label = self.labels[m as usize] as usize;
             let found = near[label];
             if self.right_link(m, found, other) != self.fails[m as usize] {
@@ -177,7 +167,6 @@ impl<A: Allocator + Copy> Trie<A> {
             }
             saved[m as usize] = found;
             near[label] = m;
-            m += 1;
         }
         true
     }
@@ -197,10 +186,8 @@ impl<A: Allocator + Copy> Trie<A> {
         ensures near { AreNear self.now.parents.items self.now.labels.items self.now.fails.items near.new.items (up self.now.fails.items p) }
     {
         let end = starts[p as usize + 1];
-        let mut m = starts[p as usize];
-        while m < end {
+        for m in starts[p as usize]..end {
             near[self.labels[m as usize] as usize] = saved[m as usize];
-            m += 1;
         }
     }
 
@@ -232,8 +219,7 @@ impl<A: Allocator + Copy> Trie<A> {
         requires trie { IsTrieOfPlaces self.now.parents.items self.now.labels.items alphabet }
         requires each { length self.now.fails.items ≡ length self.now.parents.items }
         requires few { length self.now.parents.items < 2 ^ 32 }
-        ensures yes { IfOk result (λ valid. valid ≡ true → HasLinks self.now.parents.items self.now.labels.items self.now.stops.items self.now.fails.items) }
-        ensures no { IfOk result (λ valid. valid ≡ false → HasLinks self.now.parents.items self.now.labels.items self.now.stops.items self.now.fails.items → ⊥) }
+        ensures ok { IfOk result (λ valid. IsTrue valid ↔ HasLinks self.now.parents.items self.now.labels.items self.now.stops.items self.now.fails.items) }
         ensures err { IfErr result IsOutOfMemory }
     {
         if !self.links_fall() {
@@ -250,8 +236,7 @@ impl<A: Allocator + Copy> Trie<A> {
         let mut other = count;
         let mut here = count;
         let mut next = tour[count as usize];
-        let mut k: u32 = 0;
-        while k < count {
+        for _k in 0..count {
             let above = self.above(next);
             self.retreat(&starts, &mut near, &saved, here, above);
             if above == count {
@@ -262,7 +247,6 @@ impl<A: Allocator + Copy> Trie<A> {
             }
             here = next;
             next = tour[next as usize];
-            k += 1;
         }
         Ok(true)
     }

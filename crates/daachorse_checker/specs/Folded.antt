@@ -1,5 +1,5 @@
 -- Arrays whose texts are folded, and dictionaries whose keys are.
-use Rattle.std.specs.Prelude.{◌≡◌, ◌≢◌, ℕ, ◌<◌, List, length, Option, Some, slice_index}
+use Rattle.std.specs.Prelude.{◌≡◌, ℕ, ◌<◌, List, length, Option, Some, slice_index}
 use Rattle.daachorse_model.specs.Dictionary.{Dictionary}
 use Rattle.daachorse_model.specs.Folding.{folded, folded_unit}
 use Rattle.daachorse_model.specs.Paths.{Leads}
@@ -13,6 +13,6 @@ HasFoldedUnits child = (w : List ℕ) (i c j : ℕ) → Leads child w i → chil
 abbrev pub HasFoldedKeys : {V : Type 0} → Dictionary V → Type 0
 HasFoldedKeys K = (k : List ℕ) → IsKey K k → folded k ≡ k
 
--- some label behind the first would be folded
-abbrev pub IsUnfoldedAt : List ℕ → Type 0
-IsUnfoldedAt labels = (m : ℕ) × (0 < m) × (m < length labels) × (folded_unit (slice_index labels m) ≢ slice_index labels m)
+-- no label behind the first would be folded
+abbrev pub AreFolded : List ℕ → Type 0
+AreFolded labels = (m : ℕ) → 0 < m → m < length labels → folded_unit (slice_index labels m) ≡ slice_index labels m

@@ -1,6 +1,6 @@
 //! The output chains of the elements that have places, and the sizes of their texts.
 
-ghost use Rattle.std.specs.Prelude.{◌≡◌, ◌<◌, ◌≤◌, ◌^◌, ℕ, Some, true, false, length, slice_index, IfOk, IfErr};
+ghost use Rattle.std.specs.Prelude.{◌≡◌, ◌<◌, ◌≤◌, ◌^◌, ◌↔◌, ℕ, IsTrue, Some, length, slice_index, IfOk, IfErr};
 ghost use Rattle.daachorse_core.specs.Refusals.{IsOutOfMemory};
 ghost use Rattle.daachorse_checker.specs.Chains.{AreLeavesOf, IsChained, machine_of};
 ghost use Rattle.daachorse_checker.specs.Places.{HasOnePath, ArePlacesOf};
@@ -25,10 +25,8 @@ pub fn leaves<A: Allocator>(alloc: A, parents: &[u32]) -> Result<Vec<bool, A>>
     ensures err { IfErr result IsOutOfMemory }
 {
     let mut leaves = vec![in alloc; true; parents.len()]?;
-    let mut place: usize = 1;
-    while place < parents.len() {
+    for place in 1..parents.len() {
         leaves[parents[place] as usize] = false;
-        place += 1;
     }
     Ok(leaves)
 }
@@ -52,12 +50,10 @@ pub fn sizes<E: Array, A: Allocator + Copy>(
 {
     let mut sizes = Vec::with_capacity(alloc, places.order.len())?;
     sizes.push(0)?;
-    let mut place: usize = 1;
-    while place < places.order.len() {
+    for place in 1..places.order.len() {
         let parent = places.parents[place] as usize;
         let size = sizes[parent] + array.width(places.labels[place]);
         sizes.push(size)?;
-        place += 1;
     }
     Ok(sizes)
 }
@@ -77,8 +73,7 @@ pub fn chain_holds<V: Copy, E: Array>(
     requires positions { let view = E.sees array.now in (i : ℕ) → i < view.count → view.first i ≤ length outputs.now }
     requires runs { AreRuns outputs.now runs.now }
     requires each { length runs.now ≡ length outputs.now }
-    ensures yes { result ≡ true → IsChained (machine_of (E.sees array.now) outputs.now) leaf size element }
-    ensures no { result ≡ false → IsChained (machine_of (E.sees array.now) outputs.now) leaf size element → ⊥ }
+    ensures { IsTrue result ↔ IsChained (machine_of (E.sees array.now) outputs.now) leaf size element }
 {
     let first = array.first(element as usize);
     let link = array.fail(element as usize);

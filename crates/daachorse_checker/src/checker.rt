@@ -1,6 +1,6 @@
 //! The check of an array: its places, then its output chains, then its links.
 
-ghost use Rattle.std.specs.Prelude.{◌≡◌, ◌≢◌, ◌<◌, ◌≤◌, ◌^◌, ℕ, Some, true, false, cond, length, slice_index, slice_index_or, IfOk, IfErr};
+ghost use Rattle.std.specs.Prelude.{◌≡◌, ◌<◌, ◌≤◌, ◌^◌, ◌↔◌, ℕ, IsTrue, true, false, length, IfOk, IfErr};
 ghost use Rattle.daachorse_core.specs.Outputs.{ParentsFall};
 ghost use Rattle.daachorse_core.specs.Refusals.{IsOutOfMemory};
 ghost use Rattle.daachorse_array.specs.Arrays.{HasEdges};
@@ -40,22 +40,17 @@ fn chains_hold<V: Copy, E: Array, A: Allocator>(
     requires each { length runs.now ≡ length outputs.now }
     requires sizes { length sizes.now ≡ length places.now.order.items }
     requires leaves { length leaves.now ≡ length places.now.order.items }
-    ensures yes { result ≡ true → HaveRightChains (machine_of (E.sees array.now) outputs.now) places.now.order.items sizes.now leaves.now (length places.now.order.items) }
-    ensures no { result ≡ false → HaveRightChains (machine_of (E.sees array.now) outputs.now) places.now.order.items sizes.now leaves.now (length places.now.order.items) → ⊥ }
+    ensures { IsTrue result ↔ HaveRightChains (machine_of (E.sees array.now) outputs.now) places.now.order.items sizes.now leaves.now (length places.now.order.items) }
 {
     let first = array.first(0);
     if rest_at(outputs, runs, 0, first) != 0 {
         return false;
     }
-    let mut place: usize = 1;
-    while place < places.order.len() {
+    for place in 1..places.order.len() {
         let element = places.order[place];
-        let size = sizes[place];
-        let leaf = leaves[place];
-        if !chain_holds(array, outputs, runs, element, size, leaf) {
+        if !chain_holds(array, outputs, runs, element, sizes[place], leaves[place]) {
             return false;
         }
-        place += 1;
     }
     true
 }
@@ -81,14 +76,9 @@ fn stops<V: Copy, E: Array, A: Allocator + Copy>(
         return Ok(vec![in alloc; false; places.order.len()]?);
     }
     let mut stops = Vec::with_capacity(alloc, places.order.len())?;
-    let mut place: usize = 0;
-    while place < places.order.len() {
-        let element = places.order[place];
-        let size = sizes[place];
-        let first = array.first(element as usize);
-        let own = has_own(outputs, size, first);
-        stops.push(own)?;
-        place += 1;
+    for place in 0..places.order.len() {
+        let first = array.first(places.order[place] as usize);
+        stops.push(has_own(outputs, sizes[place], first))?;
     }
     Ok(stops)
 }
@@ -110,8 +100,7 @@ fn links_hold<V: Copy, E: Array, A: Allocator + Copy>(
     requires positions { let view = E.sees array.now in (i : ℕ) → i < view.count → view.first i ≤ length outputs.now }
     requires sized { let view = E.sees array.now in AreSizes view.child view.width places.order.items sizes.now }
     requires sizes { length sizes.now ≡ length places.order.items }
-    ensures yes { let view = E.sees array.now in IfOk result (λ right. right ≡ true → HasRightLinks view.width (machine_of view outputs.now) leftmost) }
-    ensures no { let view = E.sees array.now in IfOk result (λ right. right ≡ false → HasRightLinks view.width (machine_of view outputs.now) leftmost → ⊥) }
+    ensures ok { let view = E.sees array.now in IfOk result (λ right. IsTrue right ↔ HasRightLinks view.width (machine_of view outputs.now) leftmost) }
     ensures err { IfErr result IsOutOfMemory }
 {
     let Some(fails) = link_places(alloc, array, &places, leftmost)? else {
@@ -147,10 +136,8 @@ pub fn is_right<V: Copy, E: Array, A: Allocator + Copy>(
     requires positions { let view = E.sees array.now in (i : ℕ) → i < view.count → view.first i ≤ length outputs.now }
     requires outputs { length outputs.now < 2 ^ 32 }
     requires falls { ParentsFall outputs.now }
-    ensures yes { let view = E.sees array.now in IfOk result (λ right. right ≡ true → IsRight view.width (machine_of view outputs.now) leftmost
-        × IsCounted (machine_of view outputs.now) num_states) }
-    ensures no { let view = E.sees array.now in IfOk result (λ right. right ≡ false → IsRight view.width (machine_of view outputs.now) leftmost
-        → IsCounted (machine_of view outputs.now) num_states → ⊥) }
+    ensures ok { let view = E.sees array.now in IfOk result (λ right. IsTrue right ↔ (IsRight view.width (machine_of view outputs.now) leftmost
+        × IsCounted (machine_of view outputs.now) num_states)) }
     ensures err { IfErr result IsOutOfMemory }
 {
     let Some(places) = Places::new(alloc, array)? else {

@@ -65,8 +65,7 @@ fn next_level<E: Array, A: Allocator + Copy, B: Allocator>(
     ensures err { IfErr result IsOutOfMemory }
 {
     let mut next = Vec::new(alloc);
-    let mut number: usize = 0;
-    while number < level.len() {
+    for number in 0..level.len() {
         let entry = level[number];
         if !filter.admits(entry.1) {
             if has_own(array, entry.0 as usize) {
@@ -74,7 +73,6 @@ fn next_level<E: Array, A: Allocator + Copy, B: Allocator>(
             }
             push_children(array, groups, filter, entry, &mut next)?;
         }
-        number += 1;
     }
     Ok(Some(next))
 }

@@ -1,11 +1,10 @@
 //! Whether an array's texts are folded: no ASCII capital letter leads to an element.
 
-ghost use Rattle.std.specs.Prelude.{◌≡◌, ◌<◌, ◌^◌, ℕ, Some, true, false, length, slice_index, IfOk, IfErr};
+ghost use Rattle.std.specs.Prelude.{◌≡◌, ◌<◌, ◌↔◌, IsTrue, true, false, IfOk, IfErr};
 ghost use Rattle.daachorse_core.specs.Refusals.{IsOutOfMemory};
-ghost use Rattle.daachorse_model.specs.Folding.{folded_unit};
 ghost use Rattle.daachorse_array.specs.Arrays.{HasEdges};
 ghost use Rattle.daachorse_array.specs.Edges.{TellChildren};
-ghost use Rattle.daachorse_checker.specs.Folded.{HasFoldedUnits, IsUnfoldedAt};
+ghost use Rattle.daachorse_checker.specs.Folded.{AreFolded, HasFoldedUnits};
 ghost use Rattle.daachorse_checker.specs.Places.{ArePlacesOf, HasOnePath};
 
 use crate::places::Places;
@@ -36,24 +35,20 @@ pub fn is_folded<E: Array, A: Allocator + Copy>(alloc: A, array: &E) -> Result<b
 fn has_folded_labels<E: Array, A: Allocator>(_array: &E, places: &Places<A>) -> bool
     requires tell { let view = E.sees _array.now in TellChildren view.child view.group view.edge view.count }
     requires places { ArePlacesOf (E.sees _array.now) places.now }
-    ensures yes { result ≡ true → HasFoldedUnits (E.sees _array.now).child }
-    ensures no { result ≡ false → HasFoldedUnits (E.sees _array.now).child → ⊥ }
+    ensures { IsTrue result ↔ HasFoldedUnits (E.sees _array.now).child }
 {
     are_folded(&places.labels)
 }
 
 /// Whether no label but the first, which is no unit, is an ASCII capital letter.
 fn are_folded(labels: &[u32]) -> bool
-    ensures yes { result ≡ true → (m : ℕ) → 0 < m → m < length labels.now → folded_unit (slice_index labels.now m) ≡ slice_index labels.now m }
-    ensures no { result ≡ false → IsUnfoldedAt labels.now }
+    ensures { IsTrue result ↔ AreFolded labels.now }
 {
-    let mut place: usize = 1;
-    while place < labels.len() {
+    for place in 1..labels.len() {
         let label = labels[place];
         if label >= u32::from('A') && label <= u32::from('Z') {
             return false;
         }
-        place += 1;
     }
     true
 }

@@ -63,14 +63,11 @@ pub fn link_places<E: Array, A: Allocator + Copy>(
 {
     let mut fails = Vec::with_capacity(alloc, places.order.len())?;
     fails.push(0)?;
-    let mut place: usize = 1;
-    while place < places.order.len() {
-        let element = places.order[place];
-        let Some(link) = link_place(array, places, element, leftmost) else {
+    for place in 1..places.order.len() {
+        let Some(link) = link_place(array, places, places.order[place], leftmost) else {
             return Ok(None);
         };
         fails.push(link)?;
-        place += 1;
     }
     Ok(Some(fails))
 }

@@ -3,7 +3,7 @@
 //! One pass over the outputs finds all runs. An element's own outputs are then skipped in one step,
 //! however many elements share them.
 
-ghost use Rattle.std.specs.Prelude.{◌≡◌, ◌<◌, ◌≤◌, ◌^◌, true, false, Some, length, slice_get, IfOk, IfErr};
+ghost use Rattle.std.specs.Prelude.{◌≡◌, ◌<◌, ◌≤◌, ◌^◌, ◌↔◌, IsTrue, Some, length, slice_get, IfOk, IfErr};
 ghost use Rattle.daachorse_core.specs.Outputs.{ParentsFall, parent_of};
 ghost use Rattle.daachorse_core.specs.Refusals.{IsOutOfMemory};
 ghost use Rattle.daachorse_array.specs.Machines.{own_from};
@@ -32,16 +32,12 @@ fn parent<V: Copy>(output: Output<V>) -> u32
 /// Whether each output's parent comes before it.
 pub fn parents_fall<V: Copy>(outputs: &[Output<V>]) -> bool
     requires few { length outputs.now < 2 ^ 32 }
-    ensures yes { result ≡ true → ParentsFall outputs.now }
-    ensures no { result ≡ false → ParentsFall outputs.now → ⊥ }
+    ensures { IsTrue result ↔ ParentsFall outputs.now }
 {
-    let mut number: usize = 0;
-    while number < outputs.len() {
-        let next = parent(output_at(outputs, number));
-        if next as usize > number {
+    for number in 0..outputs.len() {
+        if parent(output_at(outputs, number)) as usize > number {
             return false;
         }
-        number += 1;
     }
     true
 }
@@ -88,12 +84,10 @@ pub fn runs<V: Copy, A: Allocator>(alloc: A, outputs: &[Output<V>]) -> Result<Ve
     ensures err { IfErr result IsOutOfMemory }
 {
     let mut runs = Vec::with_capacity(alloc, outputs.len())?;
-    let mut number: usize = 0;
-    while number < outputs.len() {
+    for number in 0..outputs.len() {
         let output = output_at(outputs, number);
         let run = rest_at(outputs, &runs, output.length() as usize, parent(output));
         runs.push(run)?;
-        number += 1;
     }
     Ok(runs)
 }

@@ -1,7 +1,7 @@
 //! The check of links by following them, from the link of each place's parent on, in a limited
 //! number of steps.
 
-ghost use Rattle.std.specs.Prelude.{◌≡◌, ◌<◌, ◌≤◌, ◌^◌, length, slice_index, true, false, IfSome};
+ghost use Rattle.std.specs.Prelude.{◌≡◌, ◌↔◌, IsTrue, ◌<◌, ◌≤◌, ◌^◌, length, slice_index, true, IfSome};
 ghost use Rattle.daachorse_array.specs.Places.{IsLabelled, HasLinks, LinksFall, AreStarts, child};
 ghost use Rattle.daachorse_array.specs.Near.{pick, right};
 
@@ -38,12 +38,10 @@ impl<A: Allocator + Copy> Trie<A> {
         ensures { result ≡ pick (child self.now.parents.items self.now.labels.items p label) 0 }
     {
         let end = starts[p as usize + 1];
-        let mut m = starts[p as usize];
-        while m < end {
+        for m in starts[p as usize]..end {
             if self.labels[m as usize] == label {
                 return m;
             }
-            m += 1;
         }
         0
     }
@@ -92,20 +90,17 @@ impl<A: Allocator + Copy> Trie<A> {
         requires few { length self.now.parents.items < 2 ^ 32 }
         requires fall { LinksFall self.now.fails.items }
         requires starts { AreStarts self.now.parents.items starts.now }
-        ensures yes { IfSome result (λ valid. valid ≡ true → HasLinks self.now.parents.items self.now.labels.items self.now.stops.items self.now.fails.items) }
-        ensures no { IfSome result (λ valid. valid ≡ false → HasLinks self.now.parents.items self.now.labels.items self.now.stops.items self.now.fails.items → ⊥) }
+        ensures { IfSome result (λ valid. IsTrue valid ↔ HasLinks self.now.parents.items self.now.labels.items self.now.stops.items self.now.fails.items) }
     {
         let count = self.fails.len() as u32;
         let mut left = STEPS * self.fails.len();
-        let mut m: u32 = 1;
-        while m < count {
+        for m in 1..count {
             let Some(link) = self.followed(starts, m, &mut left) else {
                 return None;
             };
             if link != self.fails[m as usize] {
                 return Some(false);
             }
-            m += 1;
         }
         Some(true)
     }

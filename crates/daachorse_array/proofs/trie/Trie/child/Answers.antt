@@ -11,7 +11,7 @@ returns-then-index-label g c =
     let r = c.requires in
     let m = c.loop-m.m in
     let inv = c.loop-m.invariant in
-    let at = is_child t.parents.items c.args.starts.now r.starts c.args.p r.within m inv.low (omega (arith, c.loop-m-test.true, inv.end)) in
+    let at = is_child t.parents.items c.args.starts.now r.starts c.args.p r.within m (omega (arith, c.loop-m.auto.m)) (omega (arith, c.loop-m-test.true, inv.end)) in
     let label : c.index.result.now ≡ get_or t.labels.items m 0 = get_or_read t.labels.items m c.index.result.now (omega (arith, at.1, r.trie.1.each)) c.index.ensures 0 in
     is_picked r.trie.1 m c.args.p c.args.label at.0 at.1 at.2 (sym label ∙ c.if-index-label.true)
 

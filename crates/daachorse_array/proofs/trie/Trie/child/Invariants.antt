@@ -1,13 +1,9 @@
--- None of the children of the place that were looked at has the label; each round looks at one child more.
-use Rattle.std.proofs.Common.{◌≡◌, ◌≢◌, ℕ, ◌+◌, ◌<◌, ◌≤◌, ◌-◌, get_or}
+-- None of the children of the place that were looked at has the label.
+use Rattle.std.proofs.Common.{◌≡◌, ◌≢◌, ℕ, ◌+◌, ◌<◌, ◌≤◌, get_or}
 use Rattle.daachorse_array.proofs.trie.Trie.child.Given as goal
 
 abbrev pub invariant-loop-m : goal.invariant-loop-m
 invariant-loop-m g l = record {
   end : l.end ≡ get_or l.starts (l.p + 1) 0;
-  low : get_or l.starts l.p 0 ≤ l.m;
   none : (k : ℕ) → get_or l.starts l.p 0 ≤ k → k < l.m → get_or l.self.labels.items k 0 ≢ l.label;
 }
-
-abbrev pub decreases-loop-m : goal.decreases-loop-m
-decreases-loop-m g l = l.end - l.m

@@ -27,7 +27,7 @@ loop-m-preserved g c =
     let saved = c.loop-m.saved.items in
     let wide : length near' ≡ length c.args.near.now.items = inv.same in
     let size : length saved ≡ length t.parents.items = inv.size ∙ r.size in
-    let at = is_child t.parents.items c.args.starts.now r.starts p r.within m inv.low (omega (arith, c.loop-m-test.true, inv.end)) in
+    let at = is_child t.parents.items c.args.starts.now r.starts p r.within m (omega (arith, c.loop-m.auto.m)) (omega (arith, c.loop-m-test.true, inv.end)) in
     let label : c.index.result.now ≡ get_or t.labels.items m 0 = get_or_read t.labels.items m c.index.result.now (omega (arith, at.1, r.trie.each)) c.index.ensures 0 in
     let inside : c.index.result.now < length near' = omega (arith, label, r.trie.inside m at.0 at.1, wide) in
     let read : c.index-found.result.now ≡ get_or near' c.index.result.now 0 = get_or_read near' c.index.result.now c.index-found.result.now inside c.index-found.ensures 0 in
@@ -43,12 +43,11 @@ loop-m-preserved g c =
       same = length-set near' c.index.result.now m ∙ inv.same;
       size = length-set saved m c.index-found.result.now ∙ inv.size;
       end = inv.end;
-      low = omega (arith, inv.low);
       is = subst (λ l. IsEntering t.parents.items t.labels.items t.stops.items t.fails.items (set near' l m) (set saved m c.index-found.result.now) c.args.saved.now.items p (m + 1)) (sym label) next;
     }
 
-pub returns-then-right_link-index-clause-no : goal.returns-then-right_link-index-clause-no
-returns-then-right_link-index-clause-no g c = grind (arith, common_steps)
+pub returns-then-right_link-index-clause-checked : goal.returns-then-right_link-index-clause-checked
+returns-then-right_link-index-clause-checked g c = grind (arith, common_steps)
 
 pub index_mut-requires-in-loop-m : goal.index_mut-requires-in-loop-m
 index_mut-requires-in-loop-m g c = grind (arith, common_steps)

@@ -13,10 +13,10 @@ use Rattle.daachorse_array.proofs.TouringLaws.{touring_start, touring_step, tour
 use Rattle.daachorse_array.proofs.trie.Trie.has_links.Goals as goal
 use Rattle.daachorse_array.proofs.trie.Trie.has_links.Goals.{then-above-count, else-above-count}
 
-pub returns-then-not-links_fall-clause-no : goal.returns-then-not-links_fall-clause-no
-returns-then-not-links_fall-clause-no g c e links =
+pub returns-then-not-links_fall-clause-ok : goal.returns-then-not-links_fall-clause-ok
+returns-then-not-links_fall-clause-ok g c =
     let t = c.args.self.now in
-    c.if-not-links_fall.ensures.no refl (right_falls t.parents.items t.labels.items t.stops.items t.fails.items c.args.alphabet c.requires.trie c.requires.each links)
+    (λ e. absurd (false≢true e), λ links. c.if-not-links_fall.ensures.1 (right_falls t.parents.items t.labels.items t.stops.items t.fails.items c.args.alphabet c.requires.trie c.requires.each links))
 
 pub loop-k-init : goal.loop-k-init
 loop-k-init g c =
@@ -36,21 +36,20 @@ loop-k-init g c =
     record {
       wide = wide;
       size = size;
-      within = omega arith;
       touring = rw (count, first) (touring_start c.requires.trie c.requires.each next near' saved tour at);
     }
 
-pub returns-then-not-enter-clause-no : goal.returns-then-not-enter-clause-no
-returns-then-not-enter-clause-no g c e links =
+pub returns-then-not-enter-clause-ok : goal.returns-then-not-enter-clause-ok
+returns-then-not-enter-clause-ok g c =
     let t = c.args.self.now in
-    c.if-not-enter.ensures.no refl (right_checked t.parents.items t.labels.items t.stops.items t.fails.items c.args.alphabet c.requires.trie c.requires.each links c.loop-k.next)
+    (λ e. absurd (false≢true e), λ links. c.if-not-enter.ensures.checked.1 (right_checked t.parents.items t.labels.items t.stops.items t.fails.items c.args.alphabet c.requires.trie c.requires.each links c.loop-k.next))
 
-pub returns-clause-yes : goal.returns-clause-yes
-returns-clause-yes g c e =
+pub returns-clause-ok : goal.returns-clause-ok
+returns-clause-ok g c =
     let t = c.args.self.now in
     let k = c.loop-k in
-    sound t.parents.items t.labels.items t.stops.items t.fails.items c.args.alphabet c.requires.trie c.requires.each (c.if-not-links_fall.ensures.yes refl)
-    (touring_end c.requires.trie c.requires.each k.invariant.touring (omega (arith, c.loop-k-test.false, c.len-count.ensures)))
+    (λ _. sound t.parents.items t.labels.items t.stops.items t.fails.items c.args.alphabet c.requires.trie c.requires.each (c.if-not-links_fall.ensures.0 refl)
+    (touring_end c.requires.trie c.requires.each k.invariant.touring (omega (arith, c.loop-k-test.false, c.len-count.ensures))), λ _. refl)
 
 pub index-next-requires-in-loop-k : goal.index-next-requires-in-loop-k
 index-next-requires-in-loop-k g c =
@@ -65,31 +64,27 @@ loop-k-preserved g c =
     let tour = c.in_ok-tour.ensures.ok in
     let next = c.in_ok-tour.tour.items in
     let count : c.len-count.result ≡ length fs = c.len-count.ensures ∙ t.fails.ok.0 in
-    let more : k.k < length fs = omega (arith, c.loop-k-test.true, count) in
+    let more : k._k < length fs = omega (arith, c.loop-k-test.true, count) in
     let lt = next_in c.requires.trie c.requires.each k.invariant.touring more in
     let other : c.if-above-count.other ≡ top t.stops.items fs k.next =
     elim c.if-above-count.branch [
       | then-above-count w ↦ w.other-is ∙ w.root_value-other.ensures ∙ sym (top_end (up fs) t.stops.items (length fs) (length fs) k.next (sym c.above-above.ensures ∙ w.if-above-count.true ∙ count))
       | else-above-count w ↦
           w.other-is ∙ same_other c.requires.trie c.requires.each k.invariant.touring
-          (c.if-not-links_fall.ensures.yes refl) more (λ z. w.if-above-count.false (c.above-above.ensures ∙ z ∙ sym count))
+          (c.if-not-links_fall.ensures.0 refl) more (λ z. w.if-above-count.false (c.above-above.ensures ∙ z ∙ sym count))
     ] in
     let read : c.index-next-in-loop-k.result.now ≡ get_or next k.next 0 = get_or_read next k.next c.index-next-in-loop-k.result.now (omega (arith, lt, tour.size)) c.index-next-in-loop-k.ensures 0 in
     let ens = c.if-not-enter.ensures in
     let step = touring_step c.requires.trie c.requires.each k.invariant.touring tour
-    c.enter.new.near.items c.enter.new.saved.items c.if-above-count.other more (ens.checked refl) (ens.near refl) (ens.saved refl) (ens.kept refl) other in
+    c.enter.new.near.items c.enter.new.saved.items c.if-above-count.other more (ens.checked.0 refl) (ens.near refl) (ens.saved refl) (ens.kept refl) other in
     record {
       wide = c.enter.ensures.same ∙ c.retreat.ensures.same ∙ k.invariant.wide;
       size = c.enter.ensures.size ∙ k.invariant.size;
-      within = omega (arith, more);
-      touring = subst (λ p. IsTouring t.parents.items t.labels.items t.stops.items fs next c.enter.new.near.items c.enter.new.saved.items (k.k + 1) k.next p c.if-above-count.other) (sym read) step;
+      touring = subst (λ p. IsTouring t.parents.items t.labels.items t.stops.items fs next c.enter.new.near.items c.enter.new.saved.items (k._k + 1) k.next p c.if-above-count.other) (sym read) step;
     }
 
 pub links_fall-requires : goal.links_fall-requires
 links_fall-requires g c = record { few = subst (λ n. n < 2 ^ 32) (sym c.requires.each) c.requires.few }
-
-pub returns-then-not-links_fall-clause-yes : goal.returns-then-not-links_fall-clause-yes
-returns-then-not-links_fall-clause-yes g c e = absurd (false≢true e)
 
 pub overflow_cast-count : goal.overflow_cast-count
 overflow_cast-count g c = omega (arith, c.len-count.ensures, c.requires.each, c.requires.few)
@@ -109,16 +104,10 @@ returns-in_err-near g c = search (rules, IfOk-from_err, at_any_error)
 pub follows-requires : goal.follows-requires
 follows-requires g c =
     let trie : IsLabelled c.args.self.now.parents.items c.args.self.now.labels.items = (c.args.alphabet, c.requires.trie) in
-    assumption (c.if-not-links_fall.ensures.yes refl, subst (AreStarts c.args.self.now.parents.items) (sym c.deref.ensures.value) c.in_ok-starts.ensures.ok)
-
-pub returns-in-Some-clause-yes : goal.returns-in-Some-clause-yes
-returns-in-Some-clause-yes g c = c.in-Some.ensures.yes
-
-pub returns-in-Some-clause-no : goal.returns-in-Some-clause-no
-returns-in-Some-clause-no g c = c.in-Some.ensures.no
+    assumption (c.if-not-links_fall.ensures.0 refl, subst (AreStarts c.args.self.now.parents.items) (sym c.deref.ensures.value) c.in_ok-starts.ensures.ok)
 
 pub tour-requires : goal.tour-requires
-tour-requires g c = record { few = subst (λ n. n < 2 ^ 32) (sym c.requires.each) c.requires.few; fall = c.if-not-links_fall.ensures.yes refl }
+tour-requires g c = record { few = subst (λ n. n < 2 ^ 32) (sym c.requires.each) c.requires.few; fall = c.if-not-links_fall.ensures.0 refl }
 
 pub overflow_cast-count-2 : goal.overflow_cast-count-2
 overflow_cast-count-2 g c = omega (arith, c.len-count.type_inv)
@@ -140,7 +129,7 @@ retreat-requires g c =
       subst (λ q. IsAbove (up t.fails.items) q c.loop-k.here) (sym c.above-above.ensures) over,
       λ (j : ℕ). subst (λ xs. IsSaved t.parents.items t.labels.items t.fails.items xs (above (up t.fails.items) j c.loop-k.here)) (sym c.deref-in-loop-k-2.ensures.value) (inv.touring.path j),
       subst (IsTrieOfPlaces t.parents.items t.labels.items) (sym inv.wide) c.requires.trie,
-      c.if-not-links_fall.ensures.yes refl,
+      c.if-not-links_fall.ensures.0 refl,
       subst (AreStarts t.parents.items) (sym c.deref-in-loop-k.ensures.value) c.in_ok-starts.ensures.ok,
       subst (λ n. c.loop-k.here ≤ n) c.requires.each inv.touring.low,
       ap length c.deref-in-loop-k-2.ensures.value ∙ inv.size,
@@ -154,34 +143,22 @@ enter-requires g c =
     let t = c.args.self.now in
     let fs = t.fails.items in
     let k = c.loop-k in
-    let more : k.k < length fs = omega (arith, c.loop-k-test.true, c.len-count.ensures) in
+    let more : k._k < length fs = omega (arith, c.loop-k-test.true, c.len-count.ensures) in
     let count : c.len-count.result ≡ length fs = c.len-count.ensures ∙ t.fails.ok.0 in
     let other : c.if-above-count.other ≡ top t.stops.items fs k.next = elim c.if-above-count.branch [
       | then-above-count w ↦ w.other-is ∙ w.root_value-other.ensures ∙ sym (top_end (up fs) t.stops.items (length fs) (length fs) k.next (sym c.above-above.ensures ∙ w.if-above-count.true ∙ count))
       | else-above-count w ↦
           w.other-is
-          ∙ same_other c.requires.trie c.requires.each k.invariant.touring (c.if-not-links_fall.ensures.yes refl) more
+          ∙ same_other c.requires.trie c.requires.each k.invariant.touring (c.if-not-links_fall.ensures.0 refl) more
           (λ z. w.if-above-count.false (c.above-above.ensures ∙ z ∙ sym count))
     ] in
     assumption (
       subst (λ n. k.next < n) c.requires.each (next_in c.requires.trie c.requires.each k.invariant.touring more),
       subst (IsTrieOfPlaces t.parents.items t.labels.items) (sym (c.retreat.ensures.same ∙ k.invariant.wide)) c.requires.trie,
-      c.if-not-links_fall.ensures.yes refl,
+      c.if-not-links_fall.ensures.0 refl,
       subst (AreStarts t.parents.items) (sym c.deref-in-loop-k-3.ensures.value) c.in_ok-starts.ensures.ok,
       subst (AreNear t.parents.items t.labels.items fs c.retreat.new.near.items) c.above-above.ensures c.retreat.ensures.near,
     )
-
-pub returns-then-not-enter-clause-yes : goal.returns-then-not-enter-clause-yes
-returns-then-not-enter-clause-yes g c e = absurd (false≢true e)
-
-pub overflow_add-k : goal.overflow_add-k
-overflow_add-k g c = omega (arith, c.loop-k-test.true, c.len-count.ensures, c.requires.each, c.requires.few)
-
-pub loop-k-smaller : goal.loop-k-smaller
-loop-k-smaller g c = omega (arith, c.loop-k-test.true)
-
-pub returns-clause-no : goal.returns-clause-no
-returns-clause-no g c e = absurd (false≢true (sym e))
 
 pub returns-in_err-saved : goal.returns-in_err-saved
 returns-in_err-saved g c = search (rules, IfOk-from_err, at_any_error)

@@ -1,12 +1,8 @@
--- The link of each place so far, but the root, leads to an earlier place or is dead; each round looks at one place more.
-use Rattle.std.proofs.Common.{◌≡◌, ℕ, ◌<◌, ◌-◌, ◌⊎◌, length, get_or}
+-- The link of each place so far, but the root, leads to an earlier place or is dead.
+use Rattle.std.proofs.Common.{◌≡◌, ℕ, ◌<◌, ◌⊎◌, length, get_or}
 use Rattle.daachorse_array.proofs.trie.Trie.links_fall.Given as goal
 
 abbrev pub invariant-loop-m : goal.invariant-loop-m
 invariant-loop-m g l = record {
-  low : 0 < l.m;
   fall : (k : ℕ) → 0 < k → k < l.m → (get_or l.self.fails.items k 0 < k) ⊎ (get_or l.self.fails.items k 0 ≡ length l.self.fails.items);
 }
-
-abbrev pub decreases-loop-m : goal.decreases-loop-m
-decreases-loop-m g l = length l.self.fails.items - l.m

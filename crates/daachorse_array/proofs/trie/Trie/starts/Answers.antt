@@ -7,16 +7,16 @@ use Rattle.daachorse_array.specs.Places.{AreStartsTo}
 use Rattle.daachorse_array.proofs.StartLaws.{starts_push}
 use Rattle.daachorse_array.proofs.trie.Trie.starts.Goals as goal
 
-pub loop-starts-2-preserved : goal.loop-starts-2-preserved
-loop-starts-2-preserved g c =
+pub loop-starts-preserved : goal.loop-starts-preserved
+loop-starts-preserved g c =
     let ps = c.args.self.now.parents.items in
-    let old = c.loop-starts-2.starts.items in
-    let inv = c.loop-starts-2.invariant in
+    let old = c.loop-starts.starts.items in
+    let inv = c.loop-starts.invariant in
     let n = length ps in
     let count : c.len-count.result ≡ n = search rules in
-    let items : c.push-in-loop-starts-2.new.self.items ≡ old ++ c.len-count.result ∷ [] = search rules in
-    let small : length old ≤ n = omega (arith, c.loop-starts-2-test.true, c.len-in-loop-starts-2.ensures, count) in
-    let more : length c.push-in-loop-starts-2.new.self.items ≡ suc (length old) = ap length items ∙ length_push old c.len-count.result ∙ omega arith in
+    let items : c.push-in-loop-starts.new.self.items ≡ old ++ c.len-count.result ∷ [] = search rules in
+    let small : length old ≤ n = omega (arith, c.loop-starts-test.true, c.len-in-loop-starts.ensures, count) in
+    let more : length c.push-in-loop-starts.new.self.items ≡ suc (length old) = ap length items ∙ length_push old c.len-count.result ∙ omega arith in
     let to : AreStartsTo ps (old ++ c.len-count.result ∷ []) (suc (length old)) =
     starts_push ps old (length old) c.len-count.result (omega arith) inv.to (omega (arith, count, c.requires.order.some)) (omega (arith, count)) (λ k low high. inv.past k low (omega (arith, count, high))) (λ k low high. absurd (omega (arith, count, low, high))) in
     record {
@@ -25,8 +25,8 @@ loop-starts-2-preserved g c =
       most = omega (arith, more, small);
     }
 
-pub loop-starts-preserved : goal.loop-starts-preserved
-loop-starts-preserved g c = grind (arith, elements)
+pub loop-parent-preserved : goal.loop-parent-preserved
+loop-parent-preserved g c = grind (arith, elements)
 
 pub returns-in_err-push-clause-ok : goal.returns-in_err-push-clause-ok
 returns-in_err-push-clause-ok g c = IfOk-from_err c.from_residual-in_err-push.result _ c.from_residual-in_err-push.ensures.0

@@ -5,32 +5,28 @@ use Rattle.daachorse_array.proofs.trie.Trie.starts.Given as goal
 
 abbrev pub invariant-loop-m : goal.invariant-loop-m
 invariant-loop-m g l = record {
-  low : 0 < l.m;
   is : l.count ≡ length l.self.parents.items;
   to : AreStartsTo l.self.parents.items l.starts.items (length l.starts.items);
   past : (k : ℕ) → 0 < k → k < l.m → k < length l.self.parents.items → get_or l.self.parents.items k 0 < length l.starts.items;
   most : length l.starts.items ≤ length l.self.parents.items;
 }
 
-abbrev pub decreases-loop-m : goal.decreases-loop-m
-decreases-loop-m g l = l.count - l.m
-
-abbrev pub invariant-loop-starts : goal.invariant-loop-starts
-invariant-loop-starts g l = record {
+abbrev pub invariant-loop-parent : goal.invariant-loop-parent
+invariant-loop-parent g l = record {
   to : AreStartsTo l.self.parents.items l.starts.items (length l.starts.items);
   past : (k : ℕ) → 0 < k → k < l.m → k < length l.self.parents.items → get_or l.self.parents.items k 0 < length l.starts.items;
   most : length l.starts.items ≤ length l.self.parents.items;
 }
 
-abbrev pub decreases-loop-starts : goal.decreases-loop-starts
-decreases-loop-starts g l = suc l.parent - length l.starts.items
+abbrev pub decreases-loop-parent : goal.decreases-loop-parent
+decreases-loop-parent g l = suc l.parent - length l.starts.items
 
-abbrev pub invariant-loop-starts-2 : goal.invariant-loop-starts-2
-invariant-loop-starts-2 g l = record {
+abbrev pub invariant-loop-starts : goal.invariant-loop-starts
+invariant-loop-starts g l = record {
   to : AreStartsTo l.self.parents.items l.starts.items (length l.starts.items);
   past : (k : ℕ) → 0 < k → k < length l.self.parents.items → get_or l.self.parents.items k 0 < length l.starts.items;
   most : length l.starts.items ≤ suc (length l.self.parents.items);
 }
 
-abbrev pub decreases-loop-starts-2 : goal.decreases-loop-starts-2
-decreases-loop-starts-2 g l = suc l.count - length l.starts.items
+abbrev pub decreases-loop-starts : goal.decreases-loop-starts
+decreases-loop-starts g l = suc l.count - length l.starts.items

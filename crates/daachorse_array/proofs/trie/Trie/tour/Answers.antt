@@ -24,7 +24,6 @@ loop-m-preserved g c =
     let read : c.index.result.now ≡ get_or next c.above-above.result 0 = get_or_read next c.above-above.result c.index.result.now low c.index.ensures 0 in
     record {
       is = inv.is;
-      within = omega (arith, c.loop-m-test.true);
       tour = rw (add-one m, read, at) (tour_add (up fs) n next m inv.tour lt ups);
     }
 
@@ -32,7 +31,7 @@ pub returns-clause-ok : goal.returns-clause-ok
 returns-clause-ok g c =
     let fs = c.args.self.now.fails.items in
     let inv = c.loop-m.invariant in
-    let e : c.loop-m.m ≡ length fs = omega (arith, inv.within, inv.is, c.loop-m-test.false) in
+    let e : c.loop-m.m ≡ length fs = omega (arith, c.loop-m.auto.m-end, inv.is, c.loop-m-test.false) in
     subst (λ k. IsTour (up fs) (length fs) c.loop-m.next.items k) e inv.tour
 
 pub returns-in_err-next-clause-ok : goal.returns-in_err-next-clause-ok

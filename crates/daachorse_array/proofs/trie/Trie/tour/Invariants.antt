@@ -1,5 +1,5 @@
--- The list leads through the places so far, each once, and the link of each is on the link path of the one before it; each round puts in one place more.
-use Rattle.std.proofs.Common.{◌≡◌, ◌≤◌, ◌-◌, length}
+-- The list leads through the places so far, each once, and the link of each is on the link path of the one before it.
+use Rattle.std.proofs.Common.{◌≡◌, length}
 use Rattle.daachorse_array.specs.Near.{up}
 use Rattle.daachorse_array.specs.Tours.{IsTour}
 use Rattle.daachorse_array.proofs.trie.Trie.tour.Given as goal
@@ -7,9 +7,5 @@ use Rattle.daachorse_array.proofs.trie.Trie.tour.Given as goal
 abbrev pub invariant-loop-m : goal.invariant-loop-m
 invariant-loop-m g l = record {
   is : l.count ≡ length l.self.fails.items;
-  within : l.m ≤ l.count;
   tour : IsTour (up l.self.fails.items) (length l.self.fails.items) l.next.items l.m;
 }
-
-abbrev pub decreases-loop-m : goal.decreases-loop-m
-decreases-loop-m g l = l.count - l.m

@@ -35,9 +35,6 @@ returns-in_default-clause-above g c =
     let path = ap reverse c.push_reserved.ensures.items ∙ reverse-append c.up.path.items (c.up.above ∷ []) in
     rw path (climb-orphan c.requires.tree c.requires.tell (reverse c.up.path.items) c.up.above inv.climb (omega (arith, c.up-test.true)) (sym c.in_default.ensures.edge))
 
-pub returns-clause-above : goal.returns-clause-above
-returns-clause-above g c = climb-root c.requires.tree (reverse c.up.path.items) c.up.above c.up-test.false c.up.invariant.climb
-
 pub up-smaller : goal.up-smaller
 up-smaller g c =
     let inv = c.up.invariant in
@@ -49,9 +46,6 @@ pub returns-then-depth-ne-NOT_KNOWN-clause-few : goal.returns-then-depth-ne-NOT_
 returns-then-depth-ne-NOT_KNOWN-clause-few g c =
     let below = returns-then-depth-ne-NOT_KNOWN-clause-above g c in
     omega (arith, below-few c.requires.tree (reverse c.up.path.items) c.index-depth.result.now (omega arith) below, length-reverse c.up.path.items)
-
-pub returns-clause-few : goal.returns-clause-few
-returns-clause-few g c = omega (arith, below-few c.requires.tree (reverse c.up.path.items) 0 (omega arith) (returns-clause-above g c), length-reverse c.up.path.items)
 
 pub up-preserved : goal.up-preserved
 up-preserved g c =
@@ -77,3 +71,6 @@ up-preserved g c =
         | inr old ↦ set-kept c.up.depths.items c.args.element above 4294967294 old
       ]);
     }
+
+pub returns-clause-above : goal.returns-clause-above
+returns-clause-above g c = climb-root c.requires.tree (reverse c.up.path.items) c.up.above c.up-test.false c.up.invariant.climb

@@ -18,9 +18,6 @@ loop-element-init g c =
       room = omega (arith, c.in_ok-path.ensures.exact, c.num_elements-count.ensures.all);
     }
 
-pub descend-requires-clause-inside : goal.descend-requires-clause-inside
-descend-requires-clause-inside g c = waiting-inside c.requires.tree (reverse c.climb.new.path.items) c.climb.new.depths.items c.climb.ensures.known
-
 pub loop-element-preserved : goal.loop-element-preserved
 loop-element-preserved g c =
     let passed : (i : ℕ) → i < c.loop-element.element + 1 → 0 < i → slice_index c.climb.new.depths.items i ≢ 0 =
@@ -49,3 +46,6 @@ pub returns-clause-ok : goal.returns-clause-ok
 returns-clause-ok g c =
     let end : c.loop-element.element ≡ (g.E.Array.sees c.args.edges.now).count = let past = c.loop-element-test.false in omega (arith, past, c.loop-element.auto.element-end, c.num_elements-count.ensures.all) in
     known-end c.requires.tree c.loop-element.depths.items c.loop-element.invariant.known (λ i some less. c.loop-element.invariant.passed i some (omega (arith, less, end)))
+
+pub descend-requires-clause-inside : goal.descend-requires-clause-inside
+descend-requires-clause-inside g c = waiting-inside c.requires.tree (reverse c.climb.new.path.items) c.climb.new.depths.items c.climb.ensures.known

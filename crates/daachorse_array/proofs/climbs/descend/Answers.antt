@@ -4,9 +4,6 @@ use Rattle.std.proofs.lemmas.List.{length-set, reverse-append}
 use Rattle.daachorse_array.specs.Climbs.{depths_along}
 use Rattle.daachorse_array.proofs.climbs.descend.Goals as goal
 
-pub overflow_add-deepest : goal.overflow_add-deepest
-overflow_add-deepest g c = omega (arith, c.down.invariant.few, ap length c.in-Some.ensures.items, length-append c.pop.new.self.items (c.in-Some.element ∷ []))
-
 pub down-preserved : goal.down-preserved
 down-preserved g c =
     let element = c.in-Some.element in

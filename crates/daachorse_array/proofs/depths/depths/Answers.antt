@@ -13,9 +13,6 @@ elements-init g c =
       room = omega (arith, c.in_ok-reached.ensures.exact, c.push_reserved.ensures.capacity, c.num_elements-count.ensures.all);
     }
 
-pub returns-clause-ok : goal.returns-clause-ok
-returns-clause-ok g c = reaching-end c.requires.tree c.elements.reached.items c.elements.depths.items c.elements.entered c.elements.invariant.reaching (omega arith)
-
 pub note_children-requires-clause-element : goal.note_children-requires-clause-element
 note_children-requires-clause-element g c =
     entered-inside c.requires.tree c.elements.invariant.reaching (omega (arith, c.elements-test.true, c.len.ensures)) c.index.ensures
@@ -41,5 +38,5 @@ elements-preserved g c = record {
   room = omega (arith, c.elements.invariant.room, c.note_children.ensures.capacity);
 }
 
-pub note_children-requires-clause-edges : goal.note_children-requires-clause-edges
-note_children-requires-clause-edges g c = record { inside = c.requires.tree.inside; tell = c.requires.tell }
+pub returns-clause-ok : goal.returns-clause-ok
+returns-clause-ok g c = reaching-end c.requires.tree c.elements.reached.items c.elements.depths.items c.elements.entered c.elements.invariant.reaching (omega arith)

@@ -48,9 +48,6 @@ loop-child-preserved g c =
       marked = marking-next all left child (c.index.result.now + 1) c.args.depths.now.items c.loop-child.depths.items (omega (arith, less.0.0, marked.size, c.requires.size)) marked;
     }
 
-pub push_reserved-requires : goal.push_reserved-requires
-push_reserved-requires g c = omega (arith, c.loop-child.invariant.room, ap length c.in-Some-child.ensures.steps, c.loop-child.reached.ok)
-
 pub returns-clause-noted : goal.returns-clause-noted
 returns-clause-noted g c =
     let edge = (g.E.Array.sees c.args.edges.now).edge in

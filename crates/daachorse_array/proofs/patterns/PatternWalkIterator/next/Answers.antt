@@ -19,9 +19,6 @@ returns-in_default-clause-steps g c =
     let empty = left-of-none w.patterns text c.pop.new.self.items s.stop s.position end still in
     (sym c.loop-self.invariant.left ∙ left-of-none w.patterns text s.aside.items s.stop s.position end none, empty)
 
-pub own_outputs-position-requires : goal.own_outputs-position-requires
-own_outputs-position-requires g c = next-inside c.loop-self.invariant.walking c.pop.new.self.items c.in-Some.depth c.in-Some.next c.in-Some.ensures.items
-
 pub enter-entered-requires : goal.enter-entered-requires
 enter-entered-requires g c =
     let w = c.loop-self.invariant.walking in
@@ -73,9 +70,6 @@ returns-in-Ok-clause-steps g c =
     rw (position, c.value.ensures, key) (sym c.loop-self.invariant.left
     ∙ left-of-value w.patterns text (elements_of s.aside.items) s.stop s.position c.output-output.result c.if-self.false c.if-self-eq0.false c.output-output.ensures)
 
-pub returns-in-Ok-clause-goes : goal.returns-in-Ok-clause-goes
-returns-in-Ok-clause-goes g c = let e = returns-in-Ok-clause-steps g c in rw e (search rules)
-
 pub returns-in-Err-clause-steps : goal.returns-in-Err-clause-steps
 returns-in-Err-clause-steps g c =
     let s = c.loop-self.self-inside in
@@ -88,9 +82,6 @@ returns-in-Err-clause-steps g c =
       left-of-none w.patterns (map g.E.Keys.number c.enter-entered.new.text.items) c.clear.new.self.items s.stop 0 (inr refl) (ap length c.clear.ensures.items),
     )
 
-pub returns-in-Err-clause-goes : goal.returns-in-Err-clause-goes
-returns-in-Err-clause-goes g c = let e = returns-in-Err-clause-steps g c in rw (e.2, (some-cons c.args.self.now e.1).2) (search rules)
-
 pub returns-in-Err-key-clause-steps : goal.returns-in-Err-key-clause-steps
 returns-in-Err-key-clause-steps g c =
     let s = c.loop-self.self-inside in
@@ -101,18 +92,6 @@ returns-in-Err-key-clause-steps g c =
     ∙ left-of-value w.patterns text (elements_of s.aside.items) s.stop s.position c.output-output.result c.if-self.false c.if-self-eq0.false c.output-output.ensures in
     (search rules, (λ none. let bad = sym none ∙ given in cc), c.end.ensures)
 
-pub returns-in-Err-key-clause-goes : goal.returns-in-Err-key-clause-goes
-returns-in-Err-key-clause-goes g c = let e = returns-in-Err-key-clause-steps g c in rw (e.2, (some-cons c.args.self.now e.1).2) (search rules)
-
-pub loop-self-init : goal.loop-self-init
-loop-self-init g c = record { walking = c.self.invariant; left = c.self.view_is }
-
-pub output-output-requires : goal.output-output-requires
-output-output-requires g c = omega (arith, c.if-self-eq0.false, c.loop-self.invariant.walking.inside)
-
-pub overflow_cast-self : goal.overflow_cast-self
-overflow_cast-self g c = omega (arith, c.map_or.type_inv)
-
 pub invariant_of-self-in-Ok : goal.invariant_of-self-in-Ok
 invariant_of-self-in-Ok g c =
     let s = c.loop-self.self-inside in
@@ -121,5 +100,14 @@ invariant_of-self-in-Ok g c =
     let inside : c.map_or.result ≤ length (g.E.Keys.outputs s.elements) = omega (arith, position, w.patterns.falls (s.position - 1) c.output-output.result c.output-output.ensures, w.inside) in
     assumption (inside, w)
 
-pub invariant_of-self-in-Err-key : goal.invariant_of-self-in-Err-key
-invariant_of-self-in-Err-key g c = c.loop-self.invariant.walking
+pub returns-in-Err-key-clause-goes : goal.returns-in-Err-key-clause-goes
+returns-in-Err-key-clause-goes g c = let e = returns-in-Err-key-clause-steps g c in rw (e.2, (some-cons c.args.self.now e.1).2) (search rules)
+
+pub returns-in-Err-clause-goes : goal.returns-in-Err-clause-goes
+returns-in-Err-clause-goes g c = let e = returns-in-Err-clause-steps g c in rw (e.2, (some-cons c.args.self.now e.1).2) (search rules)
+
+pub returns-in-Ok-clause-goes : goal.returns-in-Ok-clause-goes
+returns-in-Ok-clause-goes g c = let e = returns-in-Ok-clause-steps g c in rw e (search rules)
+
+pub own_outputs-position-requires : goal.own_outputs-position-requires
+own_outputs-position-requires g c = next-inside c.loop-self.invariant.walking c.pop.new.self.items c.in-Some.depth c.in-Some.next c.in-Some.ensures.items

@@ -1,7 +1,6 @@
 -- No two children of a place have one label, so by the next child's label the array still has what is near above the place, and that says what the child's link has to be.
 use Rattle.std.proofs.Common.{◌≡◌, ◌+◌, ◌<◌, cond, length, get_or, set, sym, ap, ◌∙◌, subst, arith}
 use Rattle.std.proofs.lemmas.List.{get_or_read, length-set}
-use Rattle.std.proofs.lemmas.Grind.{common_steps}
 use Rattle.daachorse_array.specs.Places.{stop}
 use Rattle.daachorse_array.specs.Near.{up, near, right, or_top}
 use Rattle.daachorse_array.specs.Tours.{IsEntering}
@@ -45,12 +44,3 @@ loop-m-preserved g c =
       end = inv.end;
       is = subst (λ l. IsEntering t.parents.items t.labels.items t.stops.items t.fails.items (set near' l m) (set saved m c.index-found.result.now) c.args.saved.now.items p (m + 1)) (sym label) next;
     }
-
-pub returns-then-right_link-index-clause-checked : goal.returns-then-right_link-index-clause-checked
-returns-then-right_link-index-clause-checked g c = grind (arith, common_steps)
-
-pub index_mut-requires-in-loop-m : goal.index_mut-requires-in-loop-m
-index_mut-requires-in-loop-m g c = grind (arith, common_steps)
-
-pub returns-clause-kept : goal.returns-clause-kept
-returns-clause-kept g c = grind (arith, common_steps)

@@ -49,21 +49,6 @@ returns g c =
     c.right_link-2.ensures ∙ ap (λ x. cond (stop t.stops.items m) (length t.fails.items) (or_top 0 x)) c.root_value.ensures
     ∙ following_end r.trie.1 r.each r.fall c.loop-here.invariant.is m top
 
-pub overflow_cast-count : goal.overflow_cast-count
-overflow_cast-count g c = omega (arith, c.len-count.ensures, c.requires.each, c.requires.few)
-
-pub index-label-requires : goal.index-label-requires
-index-label-requires g c = subst (λ n. c.args.m < n) (sym (c.args.self.now.labels.ok.0 ∙ c.requires.trie.1.each)) c.requires.within
-
-pub index-given-requires : goal.index-given-requires
-index-given-requires g c = subst (λ n. c.args.m < n) (sym (c.args.self.now.fails.ok.0 ∙ c.requires.each)) c.requires.within
-
-pub index-below-requires : goal.index-below-requires
-index-below-requires g c = subst (λ n. c.args.m < n) (sym c.args.self.now.parents.ok.0) c.requires.within
-
-pub is_child-requires : goal.is_child-requires
-is_child-requires g c = record { each = c.requires.trie.1.each }
-
 pub loop-here-init : goal.loop-here-init
 loop-here-init g c =
     let t = c.args.self.now in
@@ -78,39 +63,15 @@ loop-here-init g c =
           (subst (λ x. IsFollowing t.parents.items t.labels.items t.stops.items t.fails.items p l p x) (sym (c.above-here.ensures ∙ ap (up t.fails.items) at)) start);
     }
 
-pub overflow_cast-here : goal.overflow_cast-here
-overflow_cast-here g c = omega (arith, c.loop-here.auto.here-fits)
-
-pub overflow_add-here : goal.overflow_add-here
-overflow_add-here g c = omega (arith, c.loop-here.auto.here-fits)
-
-pub offset_bounds-starts-here : goal.offset_bounds-starts-here
-offset_bounds-starts-here g c = omega (arith, c.loop-here.auto.here-fits)
-
 pub bounds-starts-here : goal.bounds-starts-here
 bounds-starts-here g c =
     let r = c.requires in
     omega (arith, following_low r.trie.1 r.each r.fall c.loop-here.invariant.is, c.len-count.ensures, c.loop-here-test.true, r.each, r.starts.each)
 
-pub overflow_cast-here-in-loop-here : goal.overflow_cast-here-in-loop-here
-overflow_cast-here-in-loop-here g c = omega (arith, c.loop-here.auto.here-fits)
-
-pub offset_bounds-starts-here-in-loop-here : goal.offset_bounds-starts-here-in-loop-here
-offset_bounds-starts-here-in-loop-here g c = omega (arith, c.loop-here.auto.here-fits)
-
 pub bounds-starts-here-in-loop-here : goal.bounds-starts-here-in-loop-here
 bounds-starts-here-in-loop-here g c =
     let r = c.requires in
     omega (arith, following_low r.trie.1 r.each r.fall c.loop-here.invariant.is, r.each, r.starts.each)
-
-pub overflow_cast-children : goal.overflow_cast-children
-overflow_cast-children g c = omega (arith, c.saturating_sub-children.type_inv)
-
-pub overflow_add-left : goal.overflow_add-left
-overflow_add-left g c = omega (arith, c.saturating_sub-children.type_inv)
-
-pub overflow_sub-left : goal.overflow_sub-left
-overflow_sub-left g c = omega (arith, c.if-left-children.false)
 
 pub returns-then-found-gt0 : goal.returns-then-found-gt0
 returns-then-found-gt0 g c =
@@ -127,9 +88,6 @@ returns-then-found-gt0 g c =
     c.right_link-then-found-gt0.ensures
     ∙ following_found r.trie.1 r.each r.fall is m found 0 lt (ap (λ x. child t.parents.items t.labels.items here x) (sym label) ∙ some)
 
-pub loop-here-smaller : goal.loop-here-smaller
-loop-here-smaller g c = omega (arith, c.if-left-children.false)
-
 pub above-here-requires : goal.above-here-requires
 above-here-requires g c =
     let t = c.args.self.now in
@@ -137,25 +95,13 @@ above-here-requires g c =
     let at : c.index-below.result.now ≡ get_or t.parents.items c.args.m 0 = get_or_read t.parents.items c.args.m c.index-below.result.now r.within c.index-below.ensures 0 in
     omega (arith, at, r.trie.1.order.earlier c.args.m r.some r.within, r.within, r.each, r.few)
 
-pub right_link-requires : goal.right_link-requires
-right_link-requires g c = omega (arith, c.requires.each, c.requires.few, c.requires.stops, c.requires.within)
-
 pub child-found-requires : goal.child-found-requires
 child-found-requires g c =
     let r = c.requires in
     let within : c.loop-here.here < length c.args.self.now.parents.items = omega (arith, following_low r.trie.1 r.each r.fall c.loop-here.invariant.is, c.len-count.ensures, c.loop-here-test.true, r.each) in
     assumption
 
-pub right_link-requires-then-found-gt0 : goal.right_link-requires-then-found-gt0
-right_link-requires-then-found-gt0 g c = omega (arith, c.requires.each, c.requires.few, c.requires.stops, c.requires.within)
-
 pub above-here-requires-in-loop-here : goal.above-here-requires-in-loop-here
 above-here-requires-in-loop-here g c =
     let r = c.requires in
     omega (arith, following_low r.trie.1 r.each r.fall c.loop-here.invariant.is, c.len-count.ensures, c.loop-here-test.true, r.each, r.few)
-
-pub root_value-requires : goal.root_value-requires
-root_value-requires g c = omega (arith, c.requires.each, c.requires.few, c.requires.stops, c.requires.trie.1.order.some)
-
-pub right_link-requires-2 : goal.right_link-requires-2
-right_link-requires-2 g c = omega (arith, c.requires.each, c.requires.few, c.requires.stops, c.requires.within)

@@ -1,9 +1,7 @@
 -- The tour comes to each place once, by way of its link, so the children of each are checked by what is near above it, and the links are right just where all of these are.
-use Rattle.std.proofs.Common.{rules, ◌≡◌, ℕ, ◌+◌, ◌^◌, ◌<◌, ◌≤◌, length, sym, ap, ◌∙◌, refl, subst, get_or, replicate, arith}
+use Rattle.std.proofs.Common.{rules, ◌≡◌, ℕ, ◌+◌, ◌<◌, ◌≤◌, length, sym, ap, ◌∙◌, refl, subst, get_or, replicate, arith}
 use Rattle.std.proofs.lemmas.List.{get_or_read, get_or-replicate, length-replicate}
-use Rattle.std.proofs.lemmas.Result.{IfOk-from_err}
 use Rattle.std.proofs.lemmas.Bool.{false≢true}
-use Rattle.daachorse_core.proofs.Refusals.{at_error, at_any_error}
 use Rattle.daachorse_array.specs.Places.{AreStarts, IsLabelled, IsTrieOfPlaces}
 use Rattle.daachorse_array.specs.Near.{up, top, above, AreNear, IsAbove, IsSaved}
 use Rattle.daachorse_array.specs.Tours.{IsTouring}
@@ -83,37 +81,10 @@ loop-k-preserved g c =
       touring = subst (λ p. IsTouring t.parents.items t.labels.items t.stops.items fs next c.enter.new.near.items c.enter.new.saved.items (k._k + 1) k.next p c.if-above-count.other) (sym read) step;
     }
 
-pub links_fall-requires : goal.links_fall-requires
-links_fall-requires g c = record { few = subst (λ n. n < 2 ^ 32) (sym c.requires.each) c.requires.few }
-
-pub overflow_cast-count : goal.overflow_cast-count
-overflow_cast-count g c = omega (arith, c.len-count.ensures, c.requires.each, c.requires.few)
-
-pub starts-requires : goal.starts-requires
-starts-requires g c = assumption
-
-pub returns-in_err-starts : goal.returns-in_err-starts
-returns-in_err-starts g c = search (rules, IfOk-from_err, at_error)
-
-pub returns-in_err-tour : goal.returns-in_err-tour
-returns-in_err-tour g c = search (rules, IfOk-from_err, at_error)
-
-pub returns-in_err-near : goal.returns-in_err-near
-returns-in_err-near g c = search (rules, IfOk-from_err, at_any_error)
-
 pub follows-requires : goal.follows-requires
 follows-requires g c =
     let trie : IsLabelled c.args.self.now.parents.items c.args.self.now.labels.items = (c.args.alphabet, c.requires.trie) in
     assumption (c.if-not-links_fall.ensures.0 refl, subst (AreStarts c.args.self.now.parents.items) (sym c.deref.ensures.value) c.in_ok-starts.ensures.ok)
-
-pub tour-requires : goal.tour-requires
-tour-requires g c = record { few = subst (λ n. n < 2 ^ 32) (sym c.requires.each) c.requires.few; fall = c.if-not-links_fall.ensures.0 refl }
-
-pub overflow_cast-count-2 : goal.overflow_cast-count-2
-overflow_cast-count-2 g c = omega (arith, c.len-count.type_inv)
-
-pub index-next-requires : goal.index-next-requires
-index-next-requires g c = omega (arith, c.in_ok-tour.ensures.ok.size, c.len-count.ensures)
 
 pub above-above-requires : goal.above-above-requires
 above-above-requires g c =
@@ -134,9 +105,6 @@ retreat-requires g c =
       subst (λ n. c.loop-k.here ≤ n) c.requires.each inv.touring.low,
       ap length c.deref-in-loop-k-2.ensures.value ∙ inv.size,
     )
-
-pub root_value-other-requires : goal.root_value-other-requires
-root_value-other-requires g c = omega (arith, c.requires.each, c.requires.few, c.requires.stops, c.requires.trie.order.some)
 
 pub enter-requires : goal.enter-requires
 enter-requires g c =
@@ -159,6 +127,3 @@ enter-requires g c =
       subst (AreStarts t.parents.items) (sym c.deref-in-loop-k-3.ensures.value) c.in_ok-starts.ensures.ok,
       subst (AreNear t.parents.items t.labels.items fs c.retreat.new.near.items) c.above-above.ensures c.retreat.ensures.near,
     )
-
-pub returns-in_err-saved : goal.returns-in_err-saved
-returns-in_err-saved g c = search (rules, IfOk-from_err, at_any_error)

@@ -11,9 +11,6 @@ leave-requires-clause-within g c =
     let lt = not_top c.args.self.now.fails.items c.loop-here.here c.args.to (omega (arith, inv.within, c.requires.each)) inv.above c.loop-here-test.true in
     omega (arith, lt, c.requires.each)
 
-pub leave-requires-clause-saved : goal.leave-requires-clause-saved
-leave-requires-clause-saved g c = c.loop-here.invariant.kept 0
-
 pub above-here-requires-clause-within : goal.above-here-requires-clause-within
 above-here-requires-clause-within g c =
     let inv = c.loop-here.invariant in
@@ -44,3 +41,6 @@ loop-here-preserved g c =
       above = rw c.above-here.ensures (above_next (up fs) here c.args.to inv.above c.loop-here-test.true);
       near = rw c.above-here.ensures c.leave.ensures.near;
     }
+
+pub leave-requires-clause-saved : goal.leave-requires-clause-saved
+leave-requires-clause-saved g c = c.loop-here.invariant.kept 0

@@ -1,8 +1,7 @@
 -- Parents rise with the places, so the children of all earlier parents end where a later parent's first child stands, and the last parent's with the last place.
 use Rattle.std.proofs.Common.{rules, ◌≡◌, ◌≤◌, ◌++◌, ◌∷◌, [], suc, length, sym, ap, ◌∙◌, subst, arith}
 use Rattle.std.proofs.lemmas.List.{length_push}
-use Rattle.std.proofs.lemmas.Grind.{elements, common_steps}
-use Rattle.std.proofs.lemmas.Result.{IfOk-from_err}
+use Rattle.std.proofs.lemmas.Grind.{elements}
 use Rattle.daachorse_array.specs.Places.{AreStartsTo}
 use Rattle.daachorse_array.proofs.StartLaws.{starts_push}
 use Rattle.daachorse_array.proofs.trie.Trie.starts.Goals as goal
@@ -27,12 +26,3 @@ loop-starts-preserved g c =
 
 pub loop-parent-preserved : goal.loop-parent-preserved
 loop-parent-preserved g c = grind (arith, elements)
-
-pub returns-in_err-push-clause-ok : goal.returns-in_err-push-clause-ok
-returns-in_err-push-clause-ok g c = IfOk-from_err c.from_residual-in_err-push.result _ c.from_residual-in_err-push.ensures.0
-
-pub loop-m-preserved : goal.loop-m-preserved
-loop-m-preserved g c = grind (arith, common_steps)
-
-pub returns-in_err-push-2-clause-ok : goal.returns-in_err-push-2-clause-ok
-returns-in_err-push-2-clause-ok g c = IfOk-from_err c.from_residual-in_err-push-2.result _ c.from_residual-in_err-push-2.ensures.0

@@ -1,8 +1,6 @@
 -- A place is put in right behind its link, which stands already, since links fall; what came behind that link now comes behind the place, whose link path goes through that link.
 use Rattle.std.proofs.Common.{◌≡◌, ◌<◌, ◌≤◌, length, subst, get_or, inl, inr, arith, add-one}
 use Rattle.std.proofs.lemmas.List.{get_or_read}
-use Rattle.std.proofs.lemmas.Result.{IfOk-from_err}
-use Rattle.std.proofs.lemmas.Grind.{common_steps, elements}
 use Rattle.daachorse_array.specs.Near.{up}
 use Rattle.daachorse_array.specs.Tours.{IsTour}
 use Rattle.daachorse_array.proofs.NearLaws.{ups_fall}
@@ -33,12 +31,3 @@ returns-clause-ok g c =
     let inv = c.loop-m.invariant in
     let e : c.loop-m.m ≡ length fs = omega (arith, c.loop-m.auto.m-end, inv.is, c.loop-m-test.false) in
     subst (λ k. IsTour (up fs) (length fs) c.loop-m.next.items k) e inv.tour
-
-pub returns-in_err-next-clause-ok : goal.returns-in_err-next-clause-ok
-returns-in_err-next-clause-ok g c = IfOk-from_err c.from_residual.result _ c.from_residual.ensures.0
-
-pub loop-m-init : goal.loop-m-init
-loop-m-init g c = grind (arith, common_steps)
-
-pub index_mut-requires-in-loop-m : goal.index_mut-requires-in-loop-m
-index_mut-requires-in-loop-m g c = grind (arith, elements)

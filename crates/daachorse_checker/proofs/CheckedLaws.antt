@@ -1,5 +1,5 @@
 -- What the checks of places, chains and links say of the machine, both ways.
-use Rattle.std.proofs.Common.{◌≡◌, ℕ, ◌<◌, Bool, false, cond, List, [], length, Option, Some, ap, ◌∙◌, arith, get_or}
+use Rattle.std.proofs.Common.{◌≡◌, ◌↔◌, ℕ, ◌<◌, Bool, false, cond, List, [], length, Option, Some, ap, ◌∙◌, arith, get_or}
 use Rattle.daachorse_model.specs.Paths.{is_reached}
 use Rattle.daachorse_array.specs.Edges.{TellChildren}
 use Rattle.daachorse_array.specs.Machines.{Machine, IsCounted, IsRight, own_from}
@@ -7,7 +7,7 @@ use Rattle.daachorse_array.specs.Places.{IsTrieOfPlaces, HasLinks}
 use Rattle.daachorse_checker.specs.Places.{HasOnePath, ArePlaces}
 use Rattle.daachorse_checker.specs.Runs.{has_values}
 use Rattle.daachorse_checker.specs.Sizes.{AreSizes}
-use Rattle.daachorse_checker.specs.Links.{AreLinkPlaces, LeadsToNoPlace, HasRightLinks}
+use Rattle.daachorse_checker.specs.Links.{AreLinkPlaces, IsLinkPlace, LeadsToNoPlace, HasRightLinks}
 use Rattle.daachorse_checker.specs.Chains.{HaveRightChains, AreLeavesOf, AreStopsAt}
 use Rattle.daachorse_checker.proofs.MemberLaws.{label, one_unit}
 use Rattle.daachorse_checker.proofs.TreeLaws.{text_at}
@@ -27,7 +27,7 @@ module _ {V : Type 0} (width : ℕ → ℕ) (a : Machine V) {group : ℕ → Opt
     right_from chained links = record {
       dead_no_child = tree.dead_no_child;
       one_path = tree.one_path;
-      leaf_has_own = λ u i w e none. right_leaves width a are unit_of_place sizes sized each leafy tree chained.others u i w e none;
+      leaf_has_own = right_leaves width a are unit_of_place sizes sized each leafy tree chained.others;
       links = links;
       chains = right_chains width a are unit_of_place sizes sized each leafy tree chained.others;
       root_chain = chained.root;
@@ -57,13 +57,10 @@ module _ {V : Type 0} (width : ℕ → ℕ) (a : Machine V) {group : ℕ → Opt
           stops_at m (omega (arith, lt, stops_each))
           ∙ ap (λ k. cond leftmost (has_values (own_from a.outputs (a.output (get_or order m 0)) k (a.output (get_or order m 0))).0) false) (sized m w (omega (arith, lt, each)) e)
 
-      pub links_are_right : HasLinks parents labels stops fails → HasRightLinks width a leftmost
-      links_are_right links =
-          right_links width a are inside (one_unit tell) stops fails fails_each (λ m pos lt. linked m pos (omega (arith, lt, fails_each))) leftmost are_stops links
-
-      pub right_links_are : HasOnePath a.child → HasRightLinks width a leftmost → HasLinks parents labels stops fails
-      right_links_are tree links =
-          links_right width a are inside (one_unit tell) stops fails fails_each (λ m pos lt. linked m pos (omega (arith, lt, fails_each))) leftmost are_stops tree links
+      pub links_are_right : HasOnePath a.child → HasLinks parents labels stops fails ↔ HasRightLinks width a leftmost
+      links_are_right tree =
+          let at : (m : ℕ) → 0 < m → m < length order → IsLinkPlace order (a.fail (get_or order m 0)) (get_or fails m 0) = λ m pos lt. linked m pos (omega (arith, lt, fails_each)) in
+          (right_links width a are inside (one_unit tell) stops fails fails_each at leftmost are_stops, links_right width a are inside (one_unit tell) stops fails fails_each at leftmost are_stops tree)
 
   -- ---- the count
   pub counted_places : HasOnePath a.child → IsCounted a (length order)

@@ -3,9 +3,8 @@
 ghost use Rattle.std.specs.Prelude.{◌≡◌, ◌<◌, ◌↔◌, IsTrue, true, false, IfOk, IfErr};
 ghost use Rattle.daachorse_core.specs.Refusals.{IsOutOfMemory};
 ghost use Rattle.daachorse_array.specs.Arrays.{HasEdges};
-ghost use Rattle.daachorse_array.specs.Edges.{TellChildren};
 ghost use Rattle.daachorse_checker.specs.Folded.{AreFolded, HasFoldedUnits};
-ghost use Rattle.daachorse_checker.specs.Places.{ArePlacesOf, HasOnePath};
+ghost use Rattle.daachorse_checker.specs.Places.{HasOnePath};
 
 use crate::places::Places;
 use daachorse_array::array::Array;
@@ -27,17 +26,7 @@ pub fn is_folded<E: Array, A: Allocator + Copy>(alloc: A, array: &E) -> Result<b
     let Some(places) = Places::new(alloc, array)? else {
         return Ok(false);
     };
-    let folded = has_folded_labels(array, &places);
-    Ok(folded)
-}
-
-/// [`is_folded`], for an array with these places. Only the contract names the array.
-fn has_folded_labels<E: Array, A: Allocator>(_array: &E, places: &Places<A>) -> bool
-    requires tell { let view = E.sees _array.now in TellChildren view.child view.group view.edge view.count }
-    requires places { ArePlacesOf (E.sees _array.now) places.now }
-    ensures { IsTrue result ↔ HasFoldedUnits (E.sees _array.now).child }
-{
-    are_folded(&places.labels)
+    Ok(are_folded(&places.labels))
 }
 
 /// Whether no label but the first, which is no unit, is an ASCII capital letter.

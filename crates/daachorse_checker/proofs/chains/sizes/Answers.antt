@@ -1,9 +1,6 @@
 -- A text is its parent's text and one unit more, so its size is that of its parent, which comes earlier, and the unit's width; the root's text is empty.
 use Rattle.std.proofs.Common.{rules, ◌≡◌, ℕ, ◌+◌, ◌*◌, ◌<◌, ◌≤◌, List, [], ◌∷◌, ◌++◌, length, sym, ap, ◌∙◌, subst, arith, get_or}
 use Rattle.std.proofs.lemmas.List.{get_or_read, length_push}
-use Rattle.std.proofs.lemmas.Result.{IfOk-from_err}
-use Rattle.std.proofs.lemmas.Grind.{elements}
-use Rattle.daachorse_core.proofs.Refusals.{at_any_error}
 use Rattle.daachorse_checker.specs.Sizes.{AreSizes}
 use Rattle.daachorse_checker.proofs.PlaceLaws.{few}
 use Rattle.daachorse_checker.proofs.SizeLaws.{size_root, size_push, short_push}
@@ -16,8 +13,6 @@ loop-place-init g c =
     let items = c.push.new.self.items in
     let zero : items ≡ 0 ∷ [] = search rules in
     record {
-      low = omega arith;
-      within = omega (arith, c.requires.places.places.some);
       each = ap length zero;
       short = λ k lt. (let same : k ≡ 0 = omega (arith, lt, ap length zero) in omega (arith, ap (λ i. get_or items i 0) same, ap (λ (xs : List ℕ). get_or xs 0 0) zero));
       are = size_root c.requires.places c.requires.tree (g.E.Array.sees a).width items zero;
@@ -29,11 +24,12 @@ overflow_add-size g c =
     let a = c.args.array.now in
     let m = c.loop-place.place in
     let inv = c.loop-place.invariant in
+    let pos : 0 < m = omega (arith, c.loop-place.auto.place) in
     let sizes = c.loop-place.sizes.items in
     let places = c.requires.places.places in
-    let lt : m < length p.order.items = omega (arith, c.loop-place-test.true, c.len.ensures) in
+    let lt : m < length p.order.items = omega (arith, c.loop-place-test.true, c.len-place-end.ensures) in
     let parent : c.index.result.now ≡ get_or p.parents.items m 0 = get_or_read p.parents.items m c.index.result.now (omega (arith, lt, places.one_each)) c.index.ensures 0 in
-    let up = places.earlier m inv.low lt in
+    let up = places.earlier m pos lt in
     let in' : c.index.result.now < length sizes = omega (arith, parent, up, inv.each) in
     let size : c.index-in-loop-place.result.now ≡ get_or sizes c.index.result.now 0 = get_or_read sizes c.index.result.now c.index-in-loop-place.result.now in' c.index-in-loop-place.ensures 0 in
     omega (arith, size, inv.short c.index.result.now in', c.width.ensures.short, parent, up, lt, few places, c.requires.places.marks_each, c.requires.few)
@@ -44,11 +40,12 @@ loop-place-preserved g c =
     let a = c.args.array.now in
     let m = c.loop-place.place in
     let inv = c.loop-place.invariant in
+    let pos : 0 < m = omega (arith, c.loop-place.auto.place) in
     let sizes = c.loop-place.sizes.items in
     let places = c.requires.places.places in
-    let lt : m < length p.order.items = omega (arith, c.loop-place-test.true, c.len.ensures) in
+    let lt : m < length p.order.items = omega (arith, c.loop-place-test.true, c.len-place-end.ensures) in
     let parent : c.index.result.now ≡ get_or p.parents.items m 0 = get_or_read p.parents.items m c.index.result.now (omega (arith, lt, places.one_each)) c.index.ensures 0 in
-    let up = places.earlier m inv.low lt in
+    let up = places.earlier m pos lt in
     let in' : c.index.result.now < length sizes = omega (arith, parent, up, inv.each) in
     let size : c.index-in-loop-place.result.now ≡ get_or sizes c.index.result.now 0 = get_or_read sizes c.index.result.now c.index-in-loop-place.result.now in' c.index-in-loop-place.ensures 0 in
     let label : c.index-in-loop-place-2.result.now ≡ get_or p.labels.items m 0 = get_or_read p.labels.items m c.index-in-loop-place-2.result.now (omega (arith, lt, places.label_each)) c.index-in-loop-place-2.ensures 0 in
@@ -59,17 +56,9 @@ loop-place-preserved g c =
     let items : c.push-in-loop-place.new.self.items ≡ sizes ++ s ∷ [] = search rules in
     let fits : s ≤ 4 * m = omega (arith, size, inv.short c.index.result.now in', c.width.ensures.short, parent, up) in
     let are : AreSizes (g.E.Array.sees a).child (g.E.Array.sees a).width p.order.items (sizes ++ s ∷ []) =
-    size_push c.requires.places c.requires.tree (g.E.Array.sees a).width sizes m s inv.low lt inv.each inv.are value in
+    size_push c.requires.places c.requires.tree (g.E.Array.sees a).width sizes m s pos lt inv.each inv.are value in
     record {
-      low = omega (arith, inv.low);
-      within = omega (arith, lt);
       each = ap length items ∙ length_push sizes s ∙ ap (λ n. n + 1) inv.each;
       short = subst (λ (xs : List ℕ). (k : ℕ) → k < length xs → get_or xs k 0 ≤ 4 * k) (sym items) (short_push sizes m s inv.each inv.short fits);
       are = subst (λ (xs : List ℕ). AreSizes (g.E.Array.sees a).child (g.E.Array.sees a).width p.order.items xs) (sym items) are;
     }
-
-pub returns-in_err-sizes : goal.returns-in_err-sizes
-returns-in_err-sizes g c = search (rules, IfOk-from_err, at_any_error)
-
-pub width-requires : goal.width-requires
-width-requires g c = grind (arith, elements)

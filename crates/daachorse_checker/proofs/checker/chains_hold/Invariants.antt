@@ -1,13 +1,9 @@
--- The chain of the element at each place before this one, but the root's, is right; each round looks at one place more.
-use Rattle.std.proofs.Common.{ℕ, ◌<◌, ◌-◌, false, get_or, length}
+-- The chain of the element at each place before this one, but the root's, is right.
+use Rattle.std.proofs.Common.{ℕ, ◌<◌, false, get_or}
 use Rattle.daachorse_checker.specs.Chains.{IsChained, machine_of}
 use Rattle.daachorse_checker.proofs.checker.chains_hold.Given as goal
 
 abbrev pub invariant-loop-place : goal.invariant-loop-place
 invariant-loop-place g l = record {
-  low : 0 < l.place;
   each : (k : ℕ) → 0 < k → k < l.place → IsChained (machine_of (g.E.Array.sees l.array) l.outputs) (get_or l.leaves k false) (get_or l.sizes k 0) (get_or l.places.order.items k 0);
 }
-
-abbrev pub decreases-loop-place : goal.decreases-loop-place
-decreases-loop-place g l = length l.places.order.items - l.place

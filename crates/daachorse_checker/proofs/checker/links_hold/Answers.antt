@@ -1,22 +1,23 @@
 -- The places are a trie with the same texts and keys as the array, so the trie's links are right just where those of the array are, and a link that leads to no place never is.
 use Rattle.std.proofs.Common.{rules, ◌≡◌, length, sym, subst, arith}
+use Rattle.std.proofs.lemmas.Bool.{false≢true}
 use Rattle.daachorse_array.specs.Places.{IsTrieOfPlaces}
 use Rattle.daachorse_checker.specs.Chains.{machine_of}
 use Rattle.daachorse_checker.specs.Links.{AreLinkPlaces, LeadsToNoPlace}
 use Rattle.daachorse_checker.proofs.PlaceLaws.{few}
-use Rattle.daachorse_checker.proofs.CheckedLaws.{trie_of_places, no_place, links_are_right, right_links_are}
+use Rattle.daachorse_checker.proofs.CheckedLaws.{trie_of_places, no_place, links_are_right}
 use Rattle.daachorse_checker.proofs.checker.links_hold.Goals as goal
 
 pub link_places-requires-clause-few : goal.link_places-requires-clause-few
 link_places-requires-clause-few g c = omega (arith, few c.requires.places.places, c.requires.places.marks_each, c.requires.few)
 
-pub returns-in_default-clause-no : goal.returns-in_default-clause-no
-returns-in_default-clause-no g c e links =
+pub returns-in_default-clause-ok : goal.returns-in_default-clause-ok
+returns-in_default-clause-ok g c =
     let arr = c.args.array.now in
     let p = c.args.places in
     let a = machine_of (g.E.Array.sees arr) c.args.outputs.now in
     let bad : LeadsToNoPlace c.args.leftmost (g.E.Array.sees arr).fail p.order.items = search rules in
-    no_place (g.E.Array.sees arr).width a c.requires.edges.tell c.requires.places (λ i u j h. (c.requires.edges.inside i u j h).1) c.args.leftmost bad links
+    (λ e. absurd (false≢true e), λ links. absurd (no_place (g.E.Array.sees arr).width a c.requires.edges.tell c.requires.places (λ i u j h. (c.requires.edges.inside i u j h).1) c.args.leftmost bad links))
 
 pub has_links-requires-clause-trie : goal.has_links-requires-clause-trie
 has_links-requires-clause-trie g c =
@@ -29,25 +30,14 @@ has_links-requires-clause-trie g c =
 pub has_links-requires-clause-few : goal.has_links-requires-clause-few
 has_links-requires-clause-few g c = omega (arith, few c.requires.places.places, c.requires.places.marks_each, c.requires.places.places.one_each, c.requires.few)
 
-pub returns-clause-yes : goal.returns-clause-yes
-returns-clause-yes g c e =
+pub returns-clause-ok : goal.returns-clause-ok
+returns-clause-ok g c =
     let arr = c.args.array.now in
     let p = c.args.places in
     let a = machine_of (g.E.Array.sees arr) c.args.outputs.now in
     let fails = c.in-Some.fails.items in
     let each : length fails ≡ length p.order.items = search rules in
     let linked : AreLinkPlaces (g.E.Array.sees arr).fail p.order.items fails = search rules in
-    links_are_right (g.E.Array.sees arr).width a c.requires.edges.tell c.requires.places (λ i u j h. (c.requires.edges.inside i u j h).1) c.args.leftmost
-    c.args.sizes.now c.requires.sized c.requires.sizes c.in_ok-stops.stops.items c.in_ok-stops.ensures.ok c.in_ok-stops.ensures.each fails each linked (c.in_ok-right.ensures.yes e)
-
-pub returns-clause-no : goal.returns-clause-no
-returns-clause-no g c e links =
-    let arr = c.args.array.now in
-    let p = c.args.places in
-    let a = machine_of (g.E.Array.sees arr) c.args.outputs.now in
-    let fails = c.in-Some.fails.items in
-    let each : length fails ≡ length p.order.items = search rules in
-    let linked : AreLinkPlaces (g.E.Array.sees arr).fail p.order.items fails = search rules in
-    c.in_ok-right.ensures.no e
-    (right_links_are (g.E.Array.sees arr).width a c.requires.edges.tell c.requires.places (λ i u j h. (c.requires.edges.inside i u j h).1) c.args.leftmost
-    c.args.sizes.now c.requires.sized c.requires.sizes c.in_ok-stops.stops.items c.in_ok-stops.ensures.ok c.in_ok-stops.ensures.each fails each linked c.requires.tree links)
+    let same = links_are_right (g.E.Array.sees arr).width a c.requires.edges.tell c.requires.places (λ i u j h. (c.requires.edges.inside i u j h).1) c.args.leftmost
+    c.args.sizes.now c.requires.sized c.requires.sizes c.in_ok-stops.stops.items c.in_ok-stops.ensures.ok c.in_ok-stops.ensures.each fails each linked c.requires.tree in
+    (λ e. same.0 (c.in_ok-right.ensures.ok.0 e), λ links. c.in_ok-right.ensures.ok.1 (same.1 links))

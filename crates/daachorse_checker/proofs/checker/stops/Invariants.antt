@@ -1,14 +1,10 @@
--- Of each place so far it is told whether its element has an output of its own, which is where a leftmost machine stops; each round adds one place.
-use Rattle.std.proofs.Common.{◌≡◌, ◌≤◌, ◌-◌, length}
+-- Of each place so far it is told whether its element has an output of its own, which is where a leftmost machine stops.
+use Rattle.std.proofs.Common.{◌≡◌, length}
 use Rattle.daachorse_checker.specs.Chains.{AreStopsAt, machine_of}
 use Rattle.daachorse_checker.proofs.checker.stops.Given as goal
 
 abbrev pub invariant-loop-place : goal.invariant-loop-place
 invariant-loop-place g l = record {
-  within : l.place ≤ length l.places.order.items;
   each : length l.stops.items ≡ l.place;
   are : AreStopsAt (machine_of (g.E.Array.sees l.array) l.outputs) l.leftmost l.places.order.items l.sizes l.stops.items;
 }
-
-abbrev pub decreases-loop-place : goal.decreases-loop-place
-decreases-loop-place g l = length l.places.order.items - l.place

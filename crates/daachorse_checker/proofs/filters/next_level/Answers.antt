@@ -1,5 +1,5 @@
 -- One entry more is done.
-use Rattle.std.proofs.Common.{◌≡◌, ℕ, ◌<◌, false, length, get_or, sym, ap, ◌∙◌, arith}
+use Rattle.std.proofs.Common.{◌≡◌, ℕ, ◌<◌, false, length, get_or, sym, ap, ◌∙◌}
 use Rattle.std.proofs.lemmas.List.{get_or_default}
 use Rattle.daachorse_prefilter.specs.declared.prefilter.window.Window.{Window}
 use Rattle.daachorse_checker.proofs.FilterLaws.{next_admitted, next_pushed}
@@ -15,7 +15,6 @@ loop-number-preserved g c =
     let so_far = c.loop-number.invariant.is in
     let here : (default : ℕ × Window) → get_or level n none ≡ get_or level n default = λ default. get_or_default level n none default lt in
     record {
-      within = omega (arith, lt);
       is = elim c.if-not-admits.branch [
         | then-not-admits+else-has_own+in_ok-push_children w ↦
             rw (ap (λ v. v.items) w.next-is)

@@ -1,5 +1,6 @@
 -- A label is folded where it is below A or above Z.
 use Rattle.std.proofs.Common.{◌≡◌, ℕ, ◌<◌, ◌≤◌, ◌⊎◌, get_or, inl, inr, arith}
+use Rattle.std.proofs.lemmas.Bool.{false≢true}
 use borrow.Author.Count.{below_more}
 use Rattle.daachorse_model.specs.Folding.{folded_unit}
 use Rattle.daachorse_model.proofs.FoldLaws.{folded_unit-is}
@@ -10,12 +11,12 @@ outside : (u : ℕ) → (u < 65) ⊎ (90 < u) → folded_unit u ≡ u
 outside u (inl low) = (folded_unit-is u).1 low
 outside u (inr high) = (folded_unit-is u).2 high
 
-pub returns-then-label-from-2-clause-no : goal.returns-then-label-from-2-clause-no
-returns-then-label-from-2-clause-no c _ =
+pub returns-then-label-from-2 : goal.returns-then-label-from-2
+returns-then-label-from-2 c =
     let m = c.loop-place.place in let label = get_or c.args.labels.now m 0 in
     let low : 65 ≤ label = omega (arith, c.if-label-from.true, c.from.ensures) in
     let high : label ≤ 90 = omega (arith, c.if-label-from-2.true, c.from-then-label-from.ensures) in
-    (m, omega (arith, c.loop-place.invariant.low), c.loop-place-test.true, λ same. omega (arith, same, (folded_unit-is label).0 (low, high)))
+    (λ e. absurd (false≢true e), λ all. absurd (omega (arith, all m (omega (arith, c.loop-place.auto.place)) c.loop-place-test.true, (folded_unit-is label).0 (low, high))))
 
 pub loop-place-preserved : goal.loop-place-preserved
 loop-place-preserved c =
@@ -26,6 +27,5 @@ loop-place-preserved c =
     ]) in
     let P : ℕ → Type 0 = λ k. 0 < k → folded_unit (get_or labels k 0) ≡ get_or labels k 0 in
     record {
-      low = omega arith;
       each = λ m pos less. below_more P at (λ k below pos. c.loop-place.invariant.each k pos below) (λ pos. here) m less pos;
     }

@@ -3,5 +3,5 @@ use Rattle.std.proofs.Common.{arith}
 use Rattle.std.proofs.lemmas.Grind.{elements}
 use Rattle.daachorse_checker.proofs.runs.parents_fall.Goals as goal
 
-pub returns-clause-yes : goal.returns-clause-yes
-returns-clause-yes g c = grind (arith, elements)
+pub returns : goal.returns
+returns g c = grind (arith, elements)

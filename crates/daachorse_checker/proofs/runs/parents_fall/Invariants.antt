@@ -1,5 +1,5 @@
--- The next output of each output so far stands before it; each round looks at one output more.
-use Rattle.std.proofs.Common.{◌≡◌, ℕ, ◌<◌, ◌≤◌, ◌-◌, length, Some}
+-- The next output of each output so far stands before it.
+use Rattle.std.proofs.Common.{◌≡◌, ℕ, ◌<◌, ◌≤◌, Some}
 use Rattle.std.specs.Prelude.{slice_get}
 use Rattle.daachorse_core.specs.declared.outputs.Output.{Output}
 use Rattle.daachorse_core.specs.Outputs.{parent_of}
@@ -9,6 +9,3 @@ abbrev pub invariant-loop-number : goal.invariant-loop-number
 invariant-loop-number g l = record {
   fall : (i : ℕ) (o : Output g.row.V.Denot) → i < l.number → slice_get l.outputs i ≡ Some o → parent_of o ≤ i;
 }
-
-abbrev pub decreases-loop-number : goal.decreases-loop-number
-decreases-loop-number g l = length l.outputs - l.number

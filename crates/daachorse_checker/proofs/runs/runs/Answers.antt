@@ -1,11 +1,8 @@
 -- The next output of a chain stands earlier, so its run is known: behind the outputs of one length the chain goes on where it does behind the next one, if that has this length too, and else at it.
-use Rattle.std.proofs.Common.{rules, ◌≡◌, ◌+◌, ◌++◌, ◌∷◌, [], length, sym, ap, ◌∙◌, subst, arith}
+use Rattle.std.proofs.Common.{rules, ◌≡◌, ◌+◌, ◌++◌, ◌∷◌, [], length, sym, ap, ◌∙◌, subst}
 use Rattle.std.proofs.lemmas.List.{length_push}
-use Rattle.std.proofs.lemmas.Result.{IfOk-from_err}
-use Rattle.std.proofs.lemmas.Grind.{common_steps}
 use Rattle.daachorse_core.specs.Outputs.{length_of, parent_of}
 use Rattle.daachorse_array.specs.Machines.{own_from}
-use Rattle.daachorse_core.proofs.Refusals.{at_any_error}
 use Rattle.daachorse_checker.specs.Runs.{AreRuns}
 use Rattle.daachorse_checker.proofs.RunLaws.{runs_push}
 use Rattle.daachorse_checker.proofs.runs.runs.Goals as goal
@@ -22,13 +19,6 @@ loop-number-preserved g c =
     ∙ ap (λ n. (own_from outputs c.parent.result n c.parent.result).1) c.length.ensures
     ∙ ap (λ p. (own_from outputs p (length_of o) p).1) c.parent.ensures in
     record {
-      within = omega (arith, c.loop-number-test.true);
       each = ap length items ∙ length_push old run ∙ ap (λ n. n + 1) c.loop-number.invariant.each;
       runs = subst (AreRuns outputs) (sym items) (runs_push outputs old run c.loop-number.number o c.loop-number.invariant.runs c.requires.fall c.loop-number.invariant.each c.output_at-output.ensures e);
     }
-
-pub returns-in_err-runs : goal.returns-in_err-runs
-returns-in_err-runs g c = search (rules, IfOk-from_err, at_any_error)
-
-pub rest_at-run-requires-clause-runs : goal.rest_at-run-requires-clause-runs
-rest_at-run-requires-clause-runs g c = grind (arith, common_steps)

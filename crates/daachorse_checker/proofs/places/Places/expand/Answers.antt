@@ -1,9 +1,6 @@
 -- A child without a place gets the next one; a child that has one already, is the root or is the dead element shows that two texts lead to one element, or one to the dead element.
 use Rattle.std.proofs.Common.{rules, ◌≡◌, ℕ, ◌<◌, ◌++◌, ◌∷◌, [], List, length, sym, ap, ◌∙◌, arith, get_or}
 use Rattle.std.proofs.lemmas.List.{get_or_read}
-use Rattle.std.proofs.lemmas.Grind.{elements}
-use Rattle.std.proofs.lemmas.Result.{IfOk-from_err}
-use Rattle.daachorse_core.proofs.Refusals.{at_any_error}
 use Rattle.daachorse_checker.proofs.PlaceLaws.{old_at}
 use Rattle.daachorse_checker.proofs.ExpandLaws.{expand_none, next_in, expand_next, expand_done, refuse_low, refuse_marked, few_places}
 use Rattle.daachorse_checker.proofs.places.Places.expand.Goals as goal
@@ -68,18 +65,3 @@ loop-member-preserved g c =
 
 pub returns-clause-yes : goal.returns-clause-yes
 returns-clause-yes g c e = expand_done c.requires.edges.tell c.loop-member.invariant.group_of c.in-None.ensures.steps.0 c.loop-member.invariant.left
-
-pub group-requires : goal.group-requires
-group-requires g c = grind (arith, elements)
-
-pub members-member-items-requires : goal.members-member-items-requires
-members-member-items-requires g c = grind (arith, elements)
-
-pub returns-in_err-push : goal.returns-in_err-push
-returns-in_err-push g c = search (rules, IfOk-from_err, at_any_error)
-
-pub returns-in_err-push-2 : goal.returns-in_err-push-2
-returns-in_err-push-2 g c = search (rules, IfOk-from_err, at_any_error)
-
-pub returns-in_err-push-3 : goal.returns-in_err-push-3
-returns-in_err-push-3 g c = search (rules, IfOk-from_err, at_any_error)

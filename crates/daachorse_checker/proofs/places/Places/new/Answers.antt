@@ -1,8 +1,5 @@
 -- At the end of the walk the children of all elements with places have places too, so just the elements that texts lead to have one, and each is reached by one text.
-use Rattle.std.proofs.Common.{rules, ◌≡◌, length, arith}
-use Rattle.std.proofs.lemmas.Result.{IfOk-from_err}
-use Rattle.std.proofs.lemmas.Grind.{common_steps}
-use Rattle.daachorse_core.proofs.Refusals.{at_error}
+use Rattle.std.proofs.Common.{◌≡◌, length, arith}
 use Rattle.daachorse_checker.proofs.ExpandLaws.{few_places, all_placed}
 use Rattle.daachorse_checker.proofs.places.Places.new.Goals as goal
 
@@ -22,9 +19,3 @@ returns-clause-yes g c =
     let done : c.loop-next.next ≡ length c.loop-next.places.order.items = omega (arith, walk.within, c.loop-next-test.false, c.len.ensures) in
     let both = all_placed c.requires.edges.tell (λ i u j e. (c.requires.edges.inside i u j e).1) (rw done at walk) in
     (both.1, both.0)
-
-pub returns-in_err-groups : goal.returns-in_err-groups
-returns-in_err-groups g c = search (rules, IfOk-from_err, at_error)
-
-pub loop-next-init : goal.loop-next-init
-loop-next-init g c = grind (arith, common_steps)

@@ -19,6 +19,7 @@ use Rattle.daachorse_search.specs.Walks.{Walked, read_on, skip_on, begin_on, mat
 use Rattle.daachorse_search.specs.Nothing.{HasPlace-none, first_from-none}
 use Rattle.daachorse_search.specs.Finds.{IsResuming, IsEverywhere, IsFinding}
 use Rattle.daachorse_search.specs.Searches.{standard_found}
+use Rattle.daachorse_search.specs.SearchViews.{standard_view}
 use Rattle.daachorse_search.specs.Afresh.{GoesOnAfresh}
 use Rattle.daachorse_search.specs.Stepwise.{Stops, AreBoundedSince, looks_unless_empty}
 use Rattle.daachorse_search.proofs.AfreshLaws.{GoesOnAfresh-standard, GoesOnAfresh-empty}
@@ -151,8 +152,7 @@ module _ {V A : Type 0} (width : ℕ → ℕ) (wide : (u : ℕ) → 1 ≤ width 
   found_outputs a seen o = HasOutputs width (sees a) seen (number o) × IfSome o (λ p. 0 < length ((sees a).outputs p.value)) × HasNone (sees a)
 
   abbrev stops : Walked A → Option NonZeroU32 → Type 0
-  stops s o = Stops (λ s. s.automaton) (λ s. units s.seen) (standard_found width sees) (λ a. 1) (λ s position. HasPlace width (sees s.automaton) s.seen position)
-      (λ s position. take 1 (matches_from width (sees s.automaton) s.seen position)) s o
+  stops s o = Stops (standard_view width sees) s o
 
   one_at_most : {X : Type 0} (xs : List X) → length (take 1 xs) ≤ 1
   one_at_most [] = omega arith

@@ -4,6 +4,7 @@ pub mod Nothing
 pub mod Scans
 pub mod Stepwise
 pub mod Searches
+pub mod SearchViews
 pub mod Finds
 pub mod Matches
 pub mod BestScans

@@ -5,6 +5,7 @@ use Rattle.daachorse_core.specs.Outputs.{number}
 use Rattle.daachorse_model.specs.declared.Match.{Match}
 use Rattle.daachorse_model.specs.Units.{size}
 use Rattle.daachorse_search.specs.Scans.{past_each_end}
+use Rattle.daachorse_search.specs.Stepwise.{StepView}
 
 -- what callers see of a search with an automaton A and a filter F: the filter as it began, the whole haystack, the matches that are left, the units behind which the search goes on, those of them that it read since it last began at the root, the turns taken, and the number of matches given
 pub record Progress (V A F : Type 0) : Type 0 where
@@ -51,13 +52,17 @@ StandsAtEnd width m haystack passed = m.end ≡ size width passed
 abbrev pub matches_left : {V : Type 0} → (List ℕ → List (Match V)) → List (Match V) → List ℕ → List ℕ → List (Match V)
 matches_left found pending read rest = pending ++ past_each_end found read rest
 
-module _ {V A W : Type 0} (automaton : W → A) (text : W → List ℕ) (found : A → List ℕ → List (Match V)) (has_output : W → ℕ → Type 0) (given_from : W → ℕ → List (Match V)) where
-  -- A walk read on in a haystack, from where nothing was pending to where there is something to give, or to the end. No match was passed over.
+module _ {V A W : Type 0} (view : StepView V A W) where
+  -- A walk read on in a haystack, and of all that was left found these matches.
+  pub record ReadsTo (from : W) (rest : List ℕ) (matches : List (Match V)) (to : W) (later : List ℕ) : Type 0 where
+    pub same : view.automaton to ≡ view.automaton from
+    pub haystack : view.read to ++ later ≡ view.read from ++ rest
+    pub left : past_each_end (view.found (view.automaton from)) (view.read from) rest ≡ matches_left (view.found (view.automaton to)) matches (view.read to) later
+
+  -- From where nothing was pending it read on to where there is something to give, or to the end. No match was passed over.
   pub record ReadsOn (from : W) (rest : List ℕ) (position : Option NonZeroU32) (to : W) (later : List ℕ) : Type 0 where
-    pub same : automaton to ≡ automaton from
-    pub haystack : text to ++ later ≡ text from ++ rest
-    pub left : past_each_end (found (automaton from)) (text from) rest ≡ matches_left (found (automaton to)) (given_from to (number position)) (text to) later
-    pub output : has_output to (number position)
+    pub reads : ReadsTo from rest (view.given_from to (number position)) to later
+    pub output : view.has_output to (number position)
     pub ended : IfNone position (later ≡ [])
     pub fewer : length later ≤ length rest
     pub over : rest ≡ [] → to ≡ from

@@ -1,9 +1,10 @@
--- What a search that goes one unit at a time tells where it stands. `read` is what it read, and `found` what it gives at the end of a text.
+-- A search that goes one unit at a time: what contracts say of its walk.
 use Rattle.std.specs.Prelude.{◌≡◌, ℕ, ◌+◌, ◌*◌, ◌<◌, ◌≤◌, Bool, false, cond, List, [], ◌≢◌, length, count_by, Option, IfSome}
 use Rattle.std.specs.declared.num.NonZeroU32.{NonZeroU32}
 use Rattle.daachorse_core.specs.Outputs.{number}
 use Rattle.daachorse_model.specs.declared.Match.{Match}
 use Rattle.daachorse_model.specs.Units.{size}
+use Rattle.daachorse_model.specs.Dictionary.{Dictionary}
 use Rattle.daachorse_model.specs.Matches.{IsSinceMatch}
 use Rattle.daachorse_model.specs.Prefixes.{IsLong, is_key}
 use Rattle.daachorse_search.specs.Views.{AutomatonView}
@@ -21,13 +22,39 @@ pub record Stepped (A : Type 0) : Type 0 where
   pub turns : ℕ
   pub given : ℕ
 
-module _ {V A W : Type 0} (automaton : W → A) (read : W → List ℕ) (found : A → List ℕ → List (Match V)) (most : A → ℕ) (has_output : W → ℕ → Type 0) (given_from : W → ℕ → List (Match V)) where
+-- what callers see of a walk W through an automaton A
+pub record StepView (V A W : Type 0) : Type 1 where
+  pub automaton : W → A
+  -- the dictionary of the automaton
+  pub content : A → Dictionary V
+  -- the units that were read
+  pub read : W → List ℕ
+  -- the number of looks at a state
+  pub turns : W → ℕ
+  -- what the search reports at the end of a text
+  pub found : A → List ℕ → List (Match V)
+  -- the most that it reports at one end
+  pub most_found : A → ℕ
+  -- the positions of outputs, which count from 1; 0 is one of them, and stands for none
+  pub has_output : W → ℕ → Type 0
+  -- what is reported from a position on, where the walk stands
+  pub given_from : W → ℕ → List (Match V)
+  -- something is found at every boundary, with no look
+  pub everywhere : W → Type 0
+  -- reading such a unit takes at least one look
+  pub looks_at : A → ℕ → Bool
+  -- reading a unit takes at most one look
+  pub ends_at_once : A → Type 0
+  -- the bounds of the turns for what was read
+  pub bounds : A → List ℕ → ℕ → Type 0
+
+module _ {V A W : Type 0} (view : StepView V A W) where
   -- the position of the first output, or `None`, where the walk stands
   pub record Stops (walk : W) (position : Option NonZeroU32) : Type 0 where
-    pub place : has_output walk (number position)
-    pub matches : found (automaton walk) (read walk) ≡ given_from walk (number position)
-    pub few : length (given_from walk (number position)) ≤ most (automaton walk)
-    pub some : IfSome position (λ p. 0 < length (given_from walk p.value))
+    pub place : view.has_output walk (number position)
+    pub matches : view.found (view.automaton walk) (view.read walk) ≡ view.given_from walk (number position)
+    pub few : length (view.given_from walk (number position)) ≤ view.most_found (view.automaton walk)
+    pub some : IfSome position (λ p. 0 < length (view.given_from walk p.value))
 
 module _ {V : Type 0} (view : AutomatonView V) where
   -- The turns of a search that begins at the root once: at most twice the units read, less the length of its state's text, at most the units read where each look ends its step, and at least the units read that some key has.

@@ -108,38 +108,13 @@ impl<V: Copy, A: Automaton<V>> FindWalk<V, A> {
 }
 
 impl<V: Copy, A: Automaton<V>> Stepwise<V> for FindWalk<V, A> {
-    ghost use Rattle.daachorse_core.specs.Seen.{units};
-    ghost use Rattle.daachorse_search.specs.Searches.{standard_found};
-    ghost use Rattle.daachorse_search.specs.Stepwise.{AreBoundedSince, looks_unless_empty};
-    ghost use Rattle.daachorse_search.specs.Walks.{HasPlace, matches_from};
+    ghost use Rattle.daachorse_search.specs.SearchViews.{standard_view};
 
     type Unit = A::Unit;
 
     type Automaton = A;
 
-    ghost automaton = { λ s. s.automaton };
-
-    ghost content = { λ a. (A.sees a).content };
-
-    ghost read = { λ s. units s.seen };
-
-    ghost turns = { λ s. s.turns };
-
-    ghost found = { standard_found A.Unit.width A.sees };
-
-    ghost most_found = { λ a. 1 };
-
-    ghost has_output = { λ s position. HasPlace A.Unit.width (A.sees s.automaton) s.seen position };
-
-    ghost given_from = { λ s position. take 1 (matches_from A.Unit.width (A.sees s.automaton) s.seen position) };
-
-    ghost everywhere = { λ s. (A.sees s.automaton).content [] ≢ [] };
-
-    ghost looks_at = { λ a. looks_unless_empty (A.sees a) };
-
-    ghost ends_at_once = { λ a. (A.sees a).ends_at_once };
-
-    ghost bounds = { λ a read turns. AreBoundedSince A.Unit.width (A.sees a) read turns };
+    ghost sees = { standard_view A.Unit.width A.sees };
 
     #[inline(always)]
     fn begin(&self) -> Option<NonZeroU32> {

@@ -59,35 +59,35 @@ impl<V: Copy, W: Stepwise<V>, H: Haystack<W::Unit>, F: Filter<W::Unit, H>> Model
     ghost Value = { Progress V W.Automaton F };
 
     ghost view = { λ s. record {
-      automaton = W.automaton s.walk;
+      automaton = W.sees.automaton s.walk;
       filter = s.first_filter.value;
       haystack = H.rest s.whole.value;
-      left = matches_behind W.Unit.width (W.found (W.automaton s.walk)) (H.rest s.whole.value) (W.given_from s.walk (next_position s.first s.output)) (W.read s.walk) (H.rest s.rest);
+      left = matches_behind W.Unit.width W.sees (H.rest s.whole.value) s.walk (H.rest s.rest) (next_position s.first s.output);
       passed = before_rest (H.rest s.whole.value) (H.rest s.rest);
-      since = W.read s.walk;
-      turns = s.taken + W.turns s.walk;
+      since = W.sees.read s.walk;
+      turns = s.taken + W.sees.turns s.walk;
       given = s.seen.given;
     } };
 
     ghost invariant = { λ s. ((w : List ℕ) → F.passes s.filter w ≡ F.passes s.first_filter.value w)
-        × IsReading W.Unit.width (W.content (W.automaton s.walk)) (W.has_output s.walk) (W.looks_at (W.automaton s.walk)) (W.ends_at_once (W.automaton s.walk)) (F.passes s.first_filter.value) (F.opened s.first_filter.value)
-        (F.opened s.filter) (H.rest s.whole.value) (W.read s.walk) (H.rest s.rest) (next_position s.first s.output) s.size s.taken (W.turns s.walk)
-        × IfSome s.first (λ _. W.everywhere s.walk × (s.output ≡ None)) };
+        × IsReading W.Unit.width W.sees (F.passes s.first_filter.value) (F.opened s.first_filter.value) (H.rest s.whole.value) s.size
+        (F.opened s.filter) s.walk (H.rest s.rest) (next_position s.first s.output) s.taken
+        × IfSome s.first (λ _. W.sees.everywhere s.walk × (s.output ≡ None)) };
 }
 
 impl<V: Copy, W: Stepwise<V>, H: Haystack<W::Unit>, F: Filter<W::Unit, H>> Matches<V, W, H, F> {
     /// A search from the beginning of the haystack, which asks the filter at the root.
     #[inline(always)]
     pub fn with_filter(walk: W, haystack: H, filter: F) -> Self
-        requires begins { W.read walk ≡ [] }
+        requires begins { W.sees.read walk ≡ [] }
         requires fits { size W.Unit.width (H.rest haystack) < 2 ^ 64 }
-        requires sound { IsSoundFor (F.passes filter) (W.content (W.automaton walk)) }
-        ensures automaton { result.automaton ≡ W.automaton walk }
+        requires sound { IsSoundFor (F.passes filter) (W.sees.content (W.sees.automaton walk)) }
+        ensures automaton { result.automaton ≡ W.sees.automaton walk }
         ensures filter { result.filter ≡ filter }
         ensures haystack { result.haystack ≡ H.rest haystack }
-        ensures left { result.left ≡ at_each_end (W.found (W.automaton walk)) [] (H.rest haystack) }
+        ensures left { result.left ≡ at_each_end (W.sees.found (W.sees.automaton walk)) [] (H.rest haystack) }
         ensures passed { result.passed ≡ [] }
-        ensures turns { result.turns ≡ W.turns walk }
+        ensures turns { result.turns ≡ W.sees.turns walk }
         ensures given { result.given ≡ 0 }
     {
         walk.turns_are_bounded();
@@ -114,12 +114,12 @@ impl<V: Copy, W: Stepwise<V>, H: Haystack<W::Unit>, F: Filter<W::Unit, H>> Match
     #[inline(always)]
     pub fn turns_are_bounded(&self)
         ensures most { self.now.turns ≤ 2 * length self.now.passed }
-        ensures single { W.ends_at_once self.now.automaton → self.now.turns ≤ length self.now.passed }
-        ensures passing { count_passing (F.passes self.now.filter) (W.looks_at self.now.automaton) self.now.haystack self.now.passed ≤ self.now.turns }
-        ensures behind { AreBoundedBehind W.bounds self.now.automaton self.now.passed self.now.since self.now.turns }
+        ensures single { W.sees.ends_at_once self.now.automaton → self.now.turns ≤ length self.now.passed }
+        ensures passing { count_passing (F.passes self.now.filter) (W.sees.looks_at self.now.automaton) self.now.haystack self.now.passed ≤ self.now.turns }
+        ensures behind { AreBoundedBehind W.sees.bounds self.now.automaton self.now.passed self.now.since self.now.turns }
         ensures bounds { ((w : List ℕ) → F.passes self.now.filter w ≡ true)
-            → W.bounds self.now.automaton self.now.passed self.now.turns }
-        ensures keyed { W.content self.now.automaton [] ≢ [] → W.bounds self.now.automaton self.now.passed self.now.turns }
+            → W.sees.bounds self.now.automaton self.now.passed self.now.turns }
+        ensures keyed { W.sees.content self.now.automaton [] ≢ [] → W.sees.bounds self.now.automaton self.now.passed self.now.turns }
         ensures idle { F.opened self.now.filter → PassesNowhere (F.passes self.now.filter) self.now.haystack → self.now.turns ≡ 0 }
         ensures passed { (rest : List ℕ) × (self.now.haystack ≡ self.now.passed ++ rest) }
     {
@@ -162,10 +162,10 @@ impl<V: Copy, W: Stepwise<V>, H: Haystack<W::Unit>, F: Filter<W::Unit, H>> Itera
 /// every boundary.
 #[inline(always)]
 fn place_first<V: Copy, W: Stepwise<V>>(walk: &W) -> (Option<NonZeroU32>, Option<NonZeroU32>)
-    requires { W.read walk.now ≡ [] }
-    ensures stops { W.found (W.automaton walk.now) (W.read walk.now) ≡ W.given_from walk.now (next_position result.0 result.1) }
-    ensures place { W.has_output walk.now (next_position result.0 result.1) }
-    ensures apart { IfSome result.0 (λ _. W.everywhere walk.now × (result.1 ≡ None)) }
+    requires { W.sees.read walk.now ≡ [] }
+    ensures stops { W.sees.found (W.sees.automaton walk.now) (W.sees.read walk.now) ≡ W.sees.given_from walk.now (next_position result.0 result.1) }
+    ensures place { W.sees.has_output walk.now (next_position result.0 result.1) }
+    ensures apart { IfSome result.0 (λ _. W.sees.everywhere walk.now × (result.1 ≡ None)) }
 {
     let output = walk.begin();
     if walk.finds_everywhere() {
@@ -184,15 +184,15 @@ fn go_on<V: Copy, W: Stepwise<V>, H: Haystack<W::Unit>, F: Filter<W::Unit, H>>(
     filter: &mut F,
     first: &mut Option<NonZeroU32>,
 ) -> Option<NonZeroU32>
-    requires sound { IsSoundFor (F.passes filter.old) (W.content (W.automaton walk.old)) }
-    requires apart { IfSome first.old (λ _. W.everywhere walk.old) }
-    requires place { W.has_output walk.old (number first.old) }
+    requires sound { IsSoundFor (F.passes filter.old) (W.sees.content (W.sees.automaton walk.old)) }
+    requires apart { IfSome first.old (λ _. W.sees.everywhere walk.old) }
+    requires place { W.sees.has_output walk.old (number first.old) }
     ensures passes { (w : List ℕ) → F.passes filter.new w ≡ F.passes filter.old w }
-    ensures comes { ComesTo W.Unit.width W.automaton W.read W.found W.looks_at W.ends_at_once (F.passes filter.old) first.old walk.old (H.rest rest.old) taken.old (number result) (W.given_from walk.new (number result)) walk.new (H.rest rest.new) taken.new }
-    ensures output { W.has_output walk.new (number result) }
+    ensures comes { ComesTo W.Unit.width W.sees (F.passes filter.old) first.old walk.old (H.rest rest.old) taken.old (number result) (W.sees.given_from walk.new (number result)) walk.new (H.rest rest.new) taken.new }
+    ensures output { W.sees.has_output walk.new (number result) }
     ensures ended { IfNone result (H.rest rest.new ≡ []) }
-    ensures idle { IfNone first.old (HasNoPlace (F.passes filter.old) (F.opened filter.old) (W.read walk.old) (H.rest rest.old)
-        → (taken.new + W.turns walk.new ≡ taken.old + W.turns walk.old) × (H.rest rest.new ≡ [])) }
+    ensures idle { IfNone first.old (HasNoPlace (F.passes filter.old) (F.opened filter.old) (W.sees.read walk.old) (H.rest rest.old)
+        → (taken.new + W.sees.turns walk.new ≡ taken.old + W.sees.turns walk.old) × (H.rest rest.new ≡ [])) }
     ensures kept { IfSome first.old (λ _. filter.new ≡ filter.old) }
     ensures first { first.new ≡ None }
 {
@@ -213,13 +213,13 @@ fn read_past<V: Copy, W: Stepwise<V>, H: Haystack<W::Unit>, F: Filter<W::Unit, H
     rest: &mut H,
     filter: &mut F,
 ) -> Option<NonZeroU32>
-    requires { IsSoundFor (F.passes filter.old) (W.content (W.automaton walk.old)) }
+    requires { IsSoundFor (F.passes filter.old) (W.sees.content (W.sees.automaton walk.old)) }
     ensures passes { (w : List ℕ) → F.passes filter.new w ≡ F.passes filter.old w }
-    ensures reads { SkipsTo W.Unit.width W.automaton W.read W.found W.looks_at W.ends_at_once (F.passes filter.old) walk.old (H.rest rest.old) taken.old (W.given_from walk.new (number result)) walk.new (H.rest rest.new) taken.new }
-    ensures output { W.has_output walk.new (number result) }
+    ensures reads { SkipsTo W.Unit.width W.sees (F.passes filter.old) walk.old (H.rest rest.old) taken.old (W.sees.given_from walk.new (number result)) walk.new (H.rest rest.new) taken.new }
+    ensures output { W.sees.has_output walk.new (number result) }
     ensures ended { IfNone result (H.rest rest.new ≡ []) }
-    ensures idle { HasNoPlace (F.passes filter.old) (F.opened filter.old) (W.read walk.old) (H.rest rest.old)
-        → (taken.new + W.turns walk.new ≡ taken.old + W.turns walk.old) × (H.rest rest.new ≡ []) }
+    ensures idle { HasNoPlace (F.passes filter.old) (F.opened filter.old) (W.sees.read walk.old) (H.rest rest.old)
+        → (taken.new + W.sees.turns walk.new ≡ taken.old + W.sees.turns walk.old) × (H.rest rest.new ≡ []) }
 {
     'units: loop {
         if !filter.is_open() {
@@ -243,12 +243,12 @@ fn skip_at_root<V: Copy, W: Stepwise<V>, H: Haystack<W::Unit>, F: Filter<W::Unit
     rest: &mut H,
     filter: &mut F,
 )
-    requires sound { IsSoundFor (F.passes filter.old) (W.content (W.automaton walk.old)) }
+    requires sound { IsSoundFor (F.passes filter.old) (W.sees.content (W.sees.automaton walk.old)) }
     requires asked { F.may_ask filter.old }
     ensures passes { (w : List ℕ) → F.passes filter.new w ≡ F.passes filter.old w }
-    ensures skips { SkipsTo W.Unit.width W.automaton W.read W.found W.looks_at W.ends_at_once (F.passes filter.old) walk.old (H.rest rest.old) taken.old [] walk.new (H.rest rest.new) taken.new }
-    ensures turns { taken.new + W.turns walk.new ≡ taken.old + W.turns walk.old }
-    ensures idle { W.read walk.old ≡ [] → PassesNowhere (F.passes filter.old) (H.rest rest.old) → H.rest rest.new ≡ [] }
+    ensures skips { SkipsTo W.Unit.width W.sees (F.passes filter.old) walk.old (H.rest rest.old) taken.old [] walk.new (H.rest rest.new) taken.new }
+    ensures turns { taken.new + W.sees.turns walk.new ≡ taken.old + W.sees.turns walk.old }
+    ensures idle { W.sees.read walk.old ≡ [] → PassesNowhere (F.passes filter.old) (H.rest rest.old) → H.rest rest.new ≡ [] }
 {
     if !walk.is_at_root() {
         return;
@@ -269,7 +269,7 @@ fn read_on<V: Copy, W: Stepwise<V>, H: Haystack<W::Unit>>(
     walk: &mut W,
     rest: &mut H,
 ) -> Option<NonZeroU32>
-    ensures { ReadsOn W.automaton W.read W.found W.has_output W.given_from walk.old (H.rest rest.old) result walk.new (H.rest rest.new) }
+    ensures { ReadsOn W.sees walk.old (H.rest rest.old) result walk.new (H.rest rest.new) }
 {
     // Asked before the loop. The const parameter keeps the two copies of it from being merged.
     if !rest.is_folded() {
@@ -284,8 +284,8 @@ fn pass_one<V: Copy, W: Stepwise<V>, H: Haystack<W::Unit>>(
     walk: &mut W,
     rest: &mut H,
 ) -> Option<NonZeroU32>
-    requires { W.everywhere walk.old }
-    ensures { ReadsOn W.automaton W.read W.found W.has_output W.given_from walk.old (H.rest rest.old) result walk.new (H.rest rest.new) }
+    requires { W.sees.everywhere walk.old }
+    ensures { ReadsOn W.sees walk.old (H.rest rest.old) result walk.new (H.rest rest.new) }
 {
     let Some(unit) = rest.next() else {
         return None;
@@ -299,7 +299,7 @@ fn read_units<V: Copy, W: Stepwise<V>, H: Haystack<W::Unit>, const FOLDED: bool>
     walk: &mut W,
     rest: &mut H,
 ) -> Option<NonZeroU32>
-    ensures { ReadsOn W.automaton W.read W.found W.has_output W.given_from walk.old (H.rest rest.old) result walk.new (H.rest rest.new) }
+    ensures { ReadsOn W.sees walk.old (H.rest rest.old) result walk.new (H.rest rest.new) }
 {
     'units: loop {
         let Some(unit) = rest.next() else {

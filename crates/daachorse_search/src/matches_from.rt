@@ -47,17 +47,17 @@ where
     ghost Value = { SourceProgress V W.Automaton S };
 
     ghost view = { λ s. record {
-      automaton = W.automaton s.walk;
+      automaton = W.sees.automaton s.walk;
       source = s.source;
       folds = s.folds;
-      read = W.read s.walk;
-      pending = W.given_from s.walk (number s.output);
-      turns = W.turns s.walk;
+      read = W.sees.read s.walk;
+      pending = W.sees.given_from s.walk (number s.output);
+      turns = W.sees.turns s.walk;
       given = s.seen.given;
-      most = W.most_found (W.automaton s.walk);
+      most = W.sees.most_found (W.sees.automaton s.walk);
     } };
 
-    ghost invariant = { λ s. W.has_output s.walk (number s.output) × StandsAt W.Unit.width (W.read s.walk) s.place };
+    ghost invariant = { λ s. W.sees.has_output s.walk (number s.output) × StandsAt W.Unit.width (W.sees.read s.walk) s.place };
 }
 
 impl<V: Copy, W: Stepwise<V>, S: Source<W::Unit>> MatchesFrom<V, W, S>
@@ -67,15 +67,15 @@ where
     /// A search that has read nothing. It folds each unit if `folds` is set.
     #[inline(always)]
     pub fn new(walk: W, source: S, folds: bool) -> Self
-        requires { W.read walk ≡ [] }
-        ensures automaton { result.automaton ≡ W.automaton walk }
+        requires { W.sees.read walk ≡ [] }
+        ensures automaton { result.automaton ≡ W.sees.automaton walk }
         ensures source { result.source ≡ source }
         ensures folds { result.folds ≡ folds }
         ensures read { result.read ≡ [] }
-        ensures pending { result.pending ≡ W.found (W.automaton walk) [] }
-        ensures turns { result.turns ≡ W.turns walk }
+        ensures pending { result.pending ≡ W.sees.found (W.sees.automaton walk) [] }
+        ensures turns { result.turns ≡ W.sees.turns walk }
         ensures given { result.given ≡ 0 }
-        ensures most { result.most ≡ W.most_found (W.automaton walk) }
+        ensures most { result.most ≡ W.sees.most_found (W.sees.automaton walk) }
     {
         let output = walk.begin();
         let automaton = walk.walked();
@@ -94,7 +94,7 @@ where
     /// Does nothing. Its contract bounds the turns.
     #[inline(always)]
     pub fn turns_are_bounded(&self)
-        ensures { W.bounds self.now.automaton self.now.read self.now.turns }
+        ensures { W.sees.bounds self.now.automaton self.now.read self.now.turns }
     {
         self.walk.turns_are_bounded();
     }
@@ -103,7 +103,7 @@ where
     #[inline(always)]
     fn next_match<const FOLDED: bool>(&mut self) -> Option<Match<V>>
         requires { MayReadAsRead S.may_read self.old.folds self.old.source self.old.read }
-        ensures steps { GivesFrom W.found S.next_gives S.remaining W.Unit.unit W.Unit.width self.old result self.new }
+        ensures steps { GivesFrom W.sees.found S.next_gives S.remaining W.Unit.unit W.Unit.width self.old result self.new }
         ensures goes { MakesProgress (λ (s : SourceProgress V W.Automaton S). MayReadAsRead S.may_read s.folds s.source s.read)
             (λ s. count_map (λ n. length s.pending + s.most * n) (S.remaining s.source)) self.old result self.new }
     {
@@ -131,7 +131,7 @@ where
 
     ghost can_next = { λ s. MayReadAsRead S.may_read s.folds s.source s.read };
 
-    ghost next_gives = { GivesFrom W.found S.next_gives S.remaining W.Unit.unit W.Unit.width };
+    ghost next_gives = { GivesFrom W.sees.found S.next_gives S.remaining W.Unit.unit W.Unit.width };
 
     ghost remaining = { λ s. count_map (λ n. length s.pending + s.most * n) (S.remaining s.source) };
 

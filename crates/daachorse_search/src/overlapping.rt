@@ -103,42 +103,17 @@ impl<V: Copy, A: Automaton<V>> OverlappingWalk<V, A> {
 }
 
 impl<V: Copy, A: Automaton<V>> Stepwise<V> for OverlappingWalk<V, A> {
-    ghost use Rattle.daachorse_core.specs.Seen.{units};
-    ghost use Rattle.daachorse_search.specs.Searches.{all_found};
-    ghost use Rattle.daachorse_search.specs.Stepwise.{AreBounded};
-    ghost use Rattle.daachorse_search.specs.Walks.{HasPlace, matches_from};
+    ghost use Rattle.daachorse_search.specs.SearchViews.{all_view};
 
     type Unit = A::Unit;
 
     type Automaton = A;
 
-    ghost automaton = { λ s. s.automaton };
-
-    ghost content = { λ a. (A.sees a).content };
-
-    ghost read = { λ s. units s.seen };
-
-    ghost turns = { λ s. s.turns };
-
-    ghost found = { all_found A.Unit.width A.sees };
-
-    ghost most_found = { λ a. (A.sees a).most_outputs };
-
-    ghost has_output = { λ s position. HasPlace A.Unit.width (A.sees s.automaton) s.seen position };
-
-    ghost given_from = { λ s position. matches_from A.Unit.width (A.sees s.automaton) s.seen position };
-
-    ghost no_output = { λ s. (HasPlace-none A.Unit.width (A.sees s.automaton) s.seen (A.no_output s.automaton), matches_from-none A.Unit.width (A.sees s.automaton) s.seen (A.no_output s.automaton)) };
-
-    ghost everywhere = { λ _. ⊥ };
+    ghost sees = { all_view A.Unit.width A.sees };
 
     ghost everywhere_keyed = { λ s never. absurd never };
 
-    ghost looks_at = { λ a. (A.sees a).has_label };
-
-    ghost ends_at_once = { λ a. (A.sees a).ends_at_once };
-
-    ghost bounds = { λ a read turns. AreBounded (A.sees a) read turns };
+    ghost no_output = { λ s. (HasPlace-none A.Unit.width (A.sees s.automaton) s.seen (A.no_output s.automaton), matches_from-none A.Unit.width (A.sees s.automaton) s.seen (A.no_output s.automaton)) };
 
     #[inline(always)]
     fn begin(&self) -> Option<NonZeroU32> {
@@ -232,42 +207,17 @@ impl<V: Copy, A: Automaton<V>> NoSuffixWalk<V, A> {
 }
 
 impl<V: Copy, A: Automaton<V>> Stepwise<V> for NoSuffixWalk<V, A> {
-    ghost use Rattle.daachorse_core.specs.Seen.{units};
-    ghost use Rattle.daachorse_search.specs.Searches.{first_found};
-    ghost use Rattle.daachorse_search.specs.Stepwise.{AreBounded};
-    ghost use Rattle.daachorse_search.specs.Walks.{HasPlace, matches_from};
+    ghost use Rattle.daachorse_search.specs.SearchViews.{first_view};
 
     type Unit = A::Unit;
 
     type Automaton = A;
 
-    ghost automaton = { λ s. s.automaton };
-
-    ghost content = { λ a. (A.sees a).content };
-
-    ghost read = { λ s. units s.seen };
-
-    ghost turns = { λ s. s.turns };
-
-    ghost found = { first_found A.Unit.width A.sees };
-
-    ghost most_found = { λ a. 1 };
-
-    ghost has_output = { λ s position. HasPlace A.Unit.width (A.sees s.automaton) s.seen position };
-
-    ghost given_from = { λ s position. take 1 (matches_from A.Unit.width (A.sees s.automaton) s.seen position) };
-
-    ghost no_output = { λ s. (HasPlace-none A.Unit.width (A.sees s.automaton) s.seen (A.no_output s.automaton), first_from-none A.Unit.width (A.sees s.automaton) s.seen (A.no_output s.automaton)) };
-
-    ghost everywhere = { λ _. ⊥ };
+    ghost sees = { first_view A.Unit.width A.sees };
 
     ghost everywhere_keyed = { λ s never. absurd never };
 
-    ghost looks_at = { λ a. (A.sees a).has_label };
-
-    ghost ends_at_once = { λ a. (A.sees a).ends_at_once };
-
-    ghost bounds = { λ a read turns. AreBounded (A.sees a) read turns };
+    ghost no_output = { λ s. (HasPlace-none A.Unit.width (A.sees s.automaton) s.seen (A.no_output s.automaton), first_from-none A.Unit.width (A.sees s.automaton) s.seen (A.no_output s.automaton)) };
 
     #[inline(always)]
     fn begin(&self) -> Option<NonZeroU32> {

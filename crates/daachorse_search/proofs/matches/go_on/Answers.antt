@@ -8,11 +8,8 @@ use Rattle.daachorse_search.proofs.matches.go_on.Goals as goal
 
 pub returns-in-None-clause-comes : goal.returns-in-None-clause-comes
 returns-in-None-clause-comes g c =
-    let W = g.W.Stepwise in let rest = g.H.Haystack.rest in let passes = g.F.Filter.passes c.args.filter.now in let to = c.pass_one.new in let read = c.pass_one.ensures in
+    let view = g.W.Stepwise.sees in let rest = g.H.Haystack.rest in let passes = g.F.Filter.passes c.args.filter.now in let to = c.pass_one.new in let read = c.pass_one.ensures in
     let from = c.args.walk.now in let before = c.args.taken.now in
-    let P : Option NonZeroU32 → Type 0 = λ first. ComesTo g.W.Unit.EdgeLabel.width W.automaton W.read W.found W.looks_at W.ends_at_once passes first from (rest c.args.rest.now) before (number c.pass_one.result) (W.given_from to.walk (number c.pass_one.result)) to.walk (rest to.rest) before in
+    let P : Option NonZeroU32 → Type 0 = λ first. ComesTo g.W.Unit.EdgeLabel.width view passes first from (rest c.args.rest.now) before (number c.pass_one.result) (view.given_from to.walk (number c.pass_one.result)) to.walk (rest to.rest) before in
     subst P (sym c.in-None.is ∙ c.take.ensures.value)
-    (SkipsTo-reads g.W.Unit.EdgeLabel.width W.automaton W.read W.turns W.found W.content W.looks_at W.ends_at_once passes from (rest c.args.rest.now) before from (rest c.args.rest.now) before _ to.walk (rest to.rest)
-    (SkipsTo-first g.W.Unit.EdgeLabel.width W.automaton W.read W.turns W.found W.content W.looks_at W.ends_at_once passes from (rest c.args.rest.now) before)
-    (record { same = read.same; haystack = read.haystack; left = read.left })
-    read.fewer)
+    (SkipsTo-reads SkipsTo-first read.reads read.fewer)

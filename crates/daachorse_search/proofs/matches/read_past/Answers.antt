@@ -8,14 +8,12 @@ use Rattle.daachorse_search.proofs.ScanLaws.{none_found}
 use Rattle.daachorse_search.proofs.matches.read_past.Goals as goal
 
 pub units-init : goal.units-init
-units-init g c =
-    let W = g.W.Stepwise in let passes = g.F.Filter.passes c.args.filter.now in let rest = g.H.Haystack.rest in
-    record { passes = λ w. refl; skips = SkipsTo-first g.W.Unit.EdgeLabel.width W.automaton W.read W.turns W.found W.content W.looks_at W.ends_at_once passes c.args.walk.now (rest c.args.rest.now) c.args.taken.now; idle = λ h. (refl, h) }
+units-init g c = record { passes = λ w. refl; skips = SkipsTo-first; idle = λ h. (refl, h) }
 
 pub skip_at_root-requires-clause-sound : goal.skip_at_root-requires-clause-sound
 skip_at_root-requires-clause-sound g c =
-    let W = g.W.Stepwise in let passes = g.F.Filter.passes in let l = c.units in
-    sound_on (W.content (W.automaton c.args.walk.now)) (W.content (W.automaton l.walk)) (passes c.args.filter.now) (passes l.filter) (ap W.content l.invariant.skips.same) l.invariant.passes c.requires
+    let view = g.W.Stepwise.sees in let l = c.units in
+    sound_on (ap view.content l.invariant.skips.same) l.invariant.passes c.requires
 
 pub skip_at_root-requires-clause-asked : goal.skip_at_root-requires-clause-asked
 skip_at_root-requires-clause-asked g c = c.is_open.ensures.asked c.if-not-is_open.false
@@ -28,10 +26,8 @@ returns-then-not-is_open-clause-passes g c = c.units.invariant.passes
 
 pub returns-then-not-is_open-clause-reads : goal.returns-then-not-is_open-clause-reads
 returns-then-not-is_open-clause-reads g c =
-    let W = g.W.Stepwise in let rest = g.H.Haystack.rest in let l = c.units in let to = c.read_on.new in let read = c.read_on.ensures in
-    SkipsTo-reads g.W.Unit.EdgeLabel.width W.automaton W.read W.turns W.found W.content W.looks_at W.ends_at_once (g.F.Filter.passes c.args.filter.now) c.args.walk.now (rest c.args.rest.now) c.args.taken.now l.walk (rest l.rest) l.taken _ to.walk (rest to.rest) l.invariant.skips
-    (record { same = read.same; haystack = read.haystack; left = read.left })
-    read.fewer
+    let l = c.units in let read = c.read_on.ensures in
+    SkipsTo-reads l.invariant.skips read.reads read.fewer
 
 pub returns-then-not-is_open-clause-output : goal.returns-then-not-is_open-clause-output
 returns-then-not-is_open-clause-output g c = c.read_on.ensures.output
@@ -42,23 +38,22 @@ returns-then-not-is_open-clause-ended g c = c.read_on.ensures.ended
 -- a filter that is closed has no place to skip to, so there is nothing left
 pub returns-then-not-is_open-clause-idle : goal.returns-then-not-is_open-clause-idle
 returns-then-not-is_open-clause-idle g c h =
-    let W = g.W.Stepwise in let rest = g.H.Haystack.rest in let l = c.units in let read = c.read_on.ensures in let idle = l.invariant.idle h in
+    let view = g.W.Stepwise.sees in let rest = g.H.Haystack.rest in let l = c.units in let read = c.read_on.ensures in let idle = l.invariant.idle h in
     let none : rest l.rest ≡ [] = elim idle.1 [
       | inl none ↦ none
       | inr place ↦ let open_now : c.is_open.result ≡ true = c.is_open.ensures.open place.0 in cc
     ] in
-    (ap (λ w. l.taken + W.turns w) (read.over none) ∙ idle.0, nil_from_length (rest c.read_on.new.rest) (omega (arith, read.fewer, ap length none)))
+    (ap (λ w. l.taken + view.turns w) (read.over none) ∙ idle.0, nil_from_length (rest c.read_on.new.rest) (omega (arith, read.fewer, ap length none)))
 
 pub returns-in_default-clause-passes : goal.returns-in_default-clause-passes
 returns-in_default-clause-passes g c w = c.skip_at_root.ensures.passes w ∙ c.units.invariant.passes w
 
 pub returns-in_default-clause-reads : goal.returns-in_default-clause-reads
 returns-in_default-clause-reads g c =
-    let W = g.W.Stepwise in let rest = g.H.Haystack.rest in let to = c.skip_at_root.new in
+    let rest = g.H.Haystack.rest in let to = c.skip_at_root.new in
     let P : Option g.row.W-Unit.Denot → Type 0 = λ r. YieldsFirstBy g.W.Unit.EdgeLabel.unit rest to.rest r c.next.new.self in
     let over : P None = subst P c.in_default.is (g.met.H.Haystack.gives to.rest c.next.result c.next.new.self c.next.ensures.steps) in
-    SkipsTo-ended g.W.Unit.EdgeLabel.width W.automaton W.read W.turns W.found W.content W.looks_at W.ends_at_once (g.F.Filter.passes c.args.filter.now) c.args.walk.now (rest c.args.rest.now) c.args.taken.now to.walk (rest to.rest) (rest c.next.new.self) to.taken (W.given_from to.walk 0) (SkipsTo-then g.W.Unit.EdgeLabel.width W.automaton W.read W.turns W.found W.content W.looks_at W.ends_at_once (g.F.Filter.passes c.args.filter.now) c.args.walk.now (rest c.args.rest.now) c.args.taken.now c.units.walk (rest c.units.rest) c.units.taken [] to.walk (rest to.rest) to.taken c.units.invariant.skips
-    (SkipsTo-places g.W.Unit.EdgeLabel.width W.automaton W.read W.turns W.found W.content W.looks_at W.ends_at_once (g.F.Filter.passes c.args.filter.now) (g.F.Filter.passes c.units.filter) c.units.walk (rest c.units.rest) c.units.taken [] to.walk (rest to.rest) to.taken c.units.invariant.passes c.skip_at_root.ensures.skips)) (g.met.W.Stepwise.no_output to.walk).1 over.0 over.1
+    SkipsTo-ended (SkipsTo-then c.units.invariant.skips (SkipsTo-places c.units.invariant.passes c.skip_at_root.ensures.skips)) (g.met.W.Stepwise.no_output to.walk).1 over.0 over.1
 
 pub returns-in_default-clause-output : goal.returns-in_default-clause-output
 returns-in_default-clause-output g c = (g.met.W.Stepwise.no_output c.skip_at_root.new.walk).0
@@ -82,13 +77,11 @@ returns-in-Some-advance-clause-passes g c w = c.skip_at_root.ensures.passes w �
 
 pub returns-in-Some-advance-clause-reads : goal.returns-in-Some-advance-clause-reads
 returns-in-Some-advance-clause-reads g c =
-    let W = g.W.Stepwise in let rest = g.H.Haystack.rest in let to = c.skip_at_root.new in let unit = g.W.Unit.EdgeLabel.unit in let now = c.advance.new.self in
+    let to = c.skip_at_root.new in
     let one = g.met.H.Haystack.gives to.rest _ c.next.new.self c.in-Some.ensures.steps in
     let read = c.in-Some-advance.ensures in
-    let given = W.given_from now c.in-Some-advance.position.value in
-    SkipsTo-reads g.W.Unit.EdgeLabel.width W.automaton W.read W.turns W.found W.content W.looks_at W.ends_at_once (g.F.Filter.passes c.args.filter.now) c.args.walk.now (rest c.args.rest.now) c.args.taken.now to.walk (rest to.rest) to.taken given now (rest c.next.new.self) (SkipsTo-then g.W.Unit.EdgeLabel.width W.automaton W.read W.turns W.found W.content W.looks_at W.ends_at_once (g.F.Filter.passes c.args.filter.now) c.args.walk.now (rest c.args.rest.now) c.args.taken.now c.units.walk (rest c.units.rest) c.units.taken [] to.walk (rest to.rest) to.taken c.units.invariant.skips
-    (SkipsTo-places g.W.Unit.EdgeLabel.width W.automaton W.read W.turns W.found W.content W.looks_at W.ends_at_once (g.F.Filter.passes c.args.filter.now) (g.F.Filter.passes c.units.filter) c.units.walk (rest c.units.rest) c.units.taken [] to.walk (rest to.rest) to.taken c.units.invariant.passes c.skip_at_root.ensures.skips))
-    (ReadsTo-one W.automaton W.read W.found to.walk (rest to.rest) to.walk (rest to.rest) (unit c.in-Some.unit) (rest c.next.new.self) now given (ReadsTo-first W.automaton W.read W.found to.walk (rest to.rest)) one read.automaton read.read read.stops.matches)
+    SkipsTo-reads (SkipsTo-then c.units.invariant.skips (SkipsTo-places c.units.invariant.passes c.skip_at_root.ensures.skips))
+    (ReadsTo-one ReadsTo-first one read.automaton read.read read.stops.matches)
     (omega (arith, ap length one))
 
 pub returns-in-Some-advance-clause-output : goal.returns-in-Some-advance-clause-output
@@ -97,25 +90,24 @@ returns-in-Some-advance-clause-output g c = c.in-Some-advance.ensures.stops.plac
 -- where no place is left, there is no unit to read
 pub returns-in-Some-advance-clause-idle : goal.returns-in-Some-advance-clause-idle
 returns-in-Some-advance-clause-idle g c h =
-    let W = g.W.Stepwise in let F = g.F.Filter in let rest = g.H.Haystack.rest in let l = c.units in let to = c.skip_at_root.new in
+    let l = c.units in let to = c.skip_at_root.new in
     let one = g.met.H.Haystack.gives to.rest _ c.next.new.self c.in-Some.ensures.steps in
-    let none = no_place_skipped (F.passes c.args.filter.now) (F.passes l.filter) (F.opened l.filter) (W.read l.walk) (rest l.rest) (rest to.rest) l.invariant.passes (l.invariant.idle h).1 c.skip_at_root.ensures.skips.fewer c.skip_at_root.ensures.idle in
+    let none = no_place_skipped l.invariant.passes (l.invariant.idle h).1 c.skip_at_root.ensures.skips.fewer c.skip_at_root.ensures.idle in
     absurd (omega (arith, ap length none, ap length one))
 
 pub units-preserved : goal.units-preserved
 units-preserved g c =
-    let W = g.W.Stepwise in let F = g.F.Filter in let rest = g.H.Haystack.rest in let l = c.units in let to = c.skip_at_root.new in let unit = g.W.Unit.EdgeLabel.unit in let now = c.advance.new.self in
+    let view = g.W.Stepwise.sees in let l = c.units in let to = c.skip_at_root.new in let now = c.advance.new.self in
     let one = g.met.H.Haystack.gives to.rest _ c.next.new.self c.in-Some.ensures.steps in
     let read = c.advance.ensures in
-    let nothing : W.found (W.automaton now) (W.read now) ≡ [] = none_found (W.found (W.automaton now) (W.read now)) (W.given_from now) c.advance.result read.stops.matches c.in_default-advance.is (g.met.W.Stepwise.no_output now).1 in
+    let nothing : view.found (view.automaton now) (view.read now) ≡ [] = none_found (view.given_from now) read.stops.matches c.in_default-advance.is (g.met.W.Stepwise.no_output now).1 in
     record {
       passes = λ w. c.skip_at_root.ensures.passes w ∙ l.invariant.passes w;
-      skips = SkipsTo-reads g.W.Unit.EdgeLabel.width W.automaton W.read W.turns W.found W.content W.looks_at W.ends_at_once (F.passes c.args.filter.now) c.args.walk.now (rest c.args.rest.now) c.args.taken.now to.walk (rest to.rest) to.taken [] now (rest c.next.new.self) (SkipsTo-then g.W.Unit.EdgeLabel.width W.automaton W.read W.turns W.found W.content W.looks_at W.ends_at_once (g.F.Filter.passes c.args.filter.now) c.args.walk.now (rest c.args.rest.now) c.args.taken.now c.units.walk (rest c.units.rest) c.units.taken [] to.walk (rest to.rest) to.taken c.units.invariant.skips
-          (SkipsTo-places g.W.Unit.EdgeLabel.width W.automaton W.read W.turns W.found W.content W.looks_at W.ends_at_once (g.F.Filter.passes c.args.filter.now) (g.F.Filter.passes c.units.filter) c.units.walk (rest c.units.rest) c.units.taken [] to.walk (rest to.rest) to.taken c.units.invariant.passes c.skip_at_root.ensures.skips))
-          (ReadsTo-one W.automaton W.read W.found to.walk (rest to.rest) to.walk (rest to.rest) (unit c.in-Some.unit) (rest c.next.new.self) now [] (ReadsTo-first W.automaton W.read W.found to.walk (rest to.rest)) one read.automaton read.read nothing)
+      skips = SkipsTo-reads (SkipsTo-then c.units.invariant.skips (SkipsTo-places c.units.invariant.passes c.skip_at_root.ensures.skips))
+          (ReadsTo-one ReadsTo-first one read.automaton read.read nothing)
           (omega (arith, ap length one));
       idle = λ h.
-          (let none = no_place_skipped (F.passes c.args.filter.now) (F.passes l.filter) (F.opened l.filter) (W.read l.walk) (rest l.rest) (rest to.rest) l.invariant.passes (l.invariant.idle h).1 c.skip_at_root.ensures.skips.fewer c.skip_at_root.ensures.idle in
+          (let none = no_place_skipped l.invariant.passes (l.invariant.idle h).1 c.skip_at_root.ensures.skips.fewer c.skip_at_root.ensures.idle in
           absurd (omega (arith, ap length none, ap length one)));
     }
 

@@ -5,12 +5,12 @@ use Rattle.daachorse_search.proofs.matches.read_past.Given as goal
 
 abbrev pub invariant-units : goal.invariant-units
 invariant-units g l =
-    let W = g.W.Stepwise in let F = g.F.Filter in let rest = g.H.Haystack.rest in
+    let view = g.W.Stepwise.sees in let F = g.F.Filter in let rest = g.H.Haystack.rest in
     record {
       passes : (w : List ℕ) → F.passes l.filter w ≡ F.passes l.fn.filter w;
-      skips : SkipsTo g.W.Unit.EdgeLabel.width W.automaton W.read W.found W.looks_at W.ends_at_once (F.passes l.fn.filter) l.fn.walk (rest l.fn.rest) l.fn.taken [] l.walk (rest l.rest) l.taken;
-      idle : HasNoPlace (F.passes l.fn.filter) (F.opened l.fn.filter) (W.read l.fn.walk) (rest l.fn.rest) →
-          (l.taken + W.turns l.walk ≡ l.fn.taken + W.turns l.fn.walk) × HasNoPlace (F.passes l.fn.filter) (F.opened l.filter) (W.read l.walk) (rest l.rest);
+      skips : SkipsTo g.W.Unit.EdgeLabel.width view (F.passes l.fn.filter) l.fn.walk (rest l.fn.rest) l.fn.taken [] l.walk (rest l.rest) l.taken;
+      idle : HasNoPlace (F.passes l.fn.filter) (F.opened l.fn.filter) (view.read l.fn.walk) (rest l.fn.rest) →
+          (l.taken + view.turns l.walk ≡ l.fn.taken + view.turns l.fn.walk) × HasNoPlace (F.passes l.fn.filter) (F.opened l.filter) (view.read l.walk) (rest l.rest);
     }
 
 abbrev pub decreases-units : goal.decreases-units

@@ -6,14 +6,11 @@ use Rattle.daachorse_search.proofs.matches.read_units.Goals as goal
 
 pub returns-in-Some-advance : goal.returns-in-Some-advance
 returns-in-Some-advance g c =
-    let W = g.W.Stepwise in let rest = g.H.Haystack.rest in let l = c.units in let now = c.advance.new.self in
+    let l = c.units in
     let one = g.met.H.Haystack.gives l.rest _ c.next.new.self c.in-Some.ensures.steps in
     let step = c.in-Some-advance.ensures in
-    let read = ReadsTo-one W.automaton W.read W.found c.args.walk.now (rest c.args.rest.now) l.walk (rest l.rest) (g.W.Unit.EdgeLabel.unit c.in-Some.unit) (rest c.next.new.self) now (W.given_from now c.in-Some-advance.position.value) l.invariant.reads one step.automaton step.read step.stops.matches in
     record {
-      same = read.same;
-      haystack = read.haystack;
-      left = read.left;
+      reads = ReadsTo-one l.invariant.reads one step.automaton step.read step.stops.matches;
       output = step.stops.place;
       ended = tt;
       fewer = omega (arith, l.invariant.fewer, ap length one);
@@ -22,12 +19,12 @@ returns-in-Some-advance g c =
 
 pub units-preserved : goal.units-preserved
 units-preserved g c =
-    let W = g.W.Stepwise in let rest = g.H.Haystack.rest in let l = c.units in let now = c.advance.new.self in
+    let view = g.W.Stepwise.sees in let l = c.units in let now = c.advance.new.self in
     let one = g.met.H.Haystack.gives l.rest _ c.next.new.self c.in-Some.ensures.steps in
     let step = c.advance.ensures in
-    let nothing : W.found (W.automaton now) (W.read now) ≡ [] = none_found (W.found (W.automaton now) (W.read now)) (W.given_from now) c.advance.result step.stops.matches c.in_default-advance.is (g.met.W.Stepwise.no_output now).1 in
+    let nothing : view.found (view.automaton now) (view.read now) ≡ [] = none_found (view.given_from now) step.stops.matches c.in_default-advance.is (g.met.W.Stepwise.no_output now).1 in
     record {
-      reads = ReadsTo-one W.automaton W.read W.found c.args.walk.now (rest c.args.rest.now) l.walk (rest l.rest) (g.W.Unit.EdgeLabel.unit c.in-Some.unit) (rest c.next.new.self) now [] l.invariant.reads one step.automaton step.read nothing;
+      reads = ReadsTo-one l.invariant.reads one step.automaton step.read nothing;
       fewer = omega (arith, l.invariant.fewer, ap length one);
       over = λ none. absurd (omega (arith, l.invariant.fewer, ap length one, ap length none));
     }

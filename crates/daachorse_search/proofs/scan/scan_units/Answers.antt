@@ -11,14 +11,14 @@ use Rattle.daachorse_search.proofs.scan.scan_units.Goals as goal
 
 pub next_at-requires : goal.next_at-requires
 next_at-requires g c =
-    let W = g.W.Stepwise in let S = g.S.Iterator in let unit = g.W.Unit.EdgeLabel in
+    let view = g.W.Stepwise.sees in let S = g.S.Iterator in let unit = g.W.Unit.EdgeLabel in
     let P : ℕ → Type 0 = λ place. IsReady S.can_next S.next_gives S.remaining unit.unit unit.width c.units.source place in
-    let ready = IsReady-as_it_is S.can_next S.next_gives S.remaining unit.unit unit.width g.met.W.Unit.AsciiFold.as_wide c.args.folds c.units.source (size unit.width (W.read c.units.walk)) c.units.invariant.ready in
+    let ready = IsReady-as_it_is S.can_next S.next_gives S.remaining unit.unit unit.width g.met.W.Unit.AsciiFold.as_wide c.args.folds c.units.source (size unit.width (view.read c.units.walk)) c.units.invariant.ready in
     record { ready = subst P (sym c.units.invariant.here) ready }
 
 pub units-init : goal.units-init
 units-init g c = record {
-  over = ([], record { took = refl; fewer = omega arith; same = refl; read = sym (append-nil (g.W.Stepwise.read c.args.walk.now)); none = refl });
+  over = ([], record { took = refl; fewer = omega arith; same = refl; read = sym (append-nil (g.W.Stepwise.sees.read c.args.walk.now)); none = refl });
   ready = c.requires.ready;
   here = c.requires.here;
 }
@@ -33,37 +33,36 @@ returns-in_default-clause-took g c =
 -- the place is that of all that was read
 pub returns-in-Some-advance-clause-here : goal.returns-in-Some-advance-clause-here
 returns-in-Some-advance-clause-here g c =
-    let W = g.W.Stepwise in let unit = g.W.Unit.EdgeLabel in
-    omega (arith, c.units.invariant.here, c.in-Some.ensures.place, ap (size unit.width) c.advance.ensures.read, size-push unit.width (W.read c.units.walk) (unit.unit c.in-Some.unit))
+    let view = g.W.Stepwise.sees in let unit = g.W.Unit.EdgeLabel in
+    omega (arith, c.units.invariant.here, c.in-Some.ensures.place, ap (size unit.width) c.advance.ensures.read, size-push unit.width (view.read c.units.walk) (unit.unit c.in-Some.unit))
 
 pub returns-in-Some-advance-clause-took : goal.returns-in-Some-advance-clause-took
 returns-in-Some-advance-clause-took g c =
-    let W = g.W.Stepwise in let S = g.S.Iterator in let unit = g.W.Unit.EdgeLabel in let taken = c.in-Some.ensures in let was = c.units.invariant in
+    let view = g.W.Stepwise.sees in let S = g.S.Iterator in let unit = g.W.Unit.EdgeLabel in let taken = c.in-Some.ensures in let was = c.units.invariant in
     let item = took_as_read g.W.Unit.AsciiFold.fold unit.unit g.met.W.Unit.AsciiFold.folds S.can_next S.next_gives S.remaining c.args.folds c.units.source c.in-Some.unit c.next_at.new.self taken.steps taken.goes in
-    (was.over.0, c.units.source, c.units.walk, item.item, was.over.1, item.took, (item.goes.on was.ready.ends).2, c.advance.ensures.automaton, c.advance.ensures.read ∙ ap (λ n. W.read c.units.walk ++ n ∷ []) item.is)
+    (was.over.0, c.units.source, c.units.walk, item.item, was.over.1, item.took, (item.goes.on was.ready.ends).2, c.advance.ensures.automaton, c.advance.ensures.read ∙ ap (λ n. view.read c.units.walk ++ n ∷ []) item.is)
 
 -- the source is ready after one more unit
 pub returns-in-Some-advance-clause-ready : goal.returns-in-Some-advance-clause-ready
 returns-in-Some-advance-clause-ready g c =
-    let W = g.W.Stepwise in let S = g.S.Iterator in let unit = g.W.Unit.EdgeLabel in let taken = c.in-Some.ensures in
+    let view = g.W.Stepwise.sees in let S = g.S.Iterator in let unit = g.W.Unit.EdgeLabel in let taken = c.in-Some.ensures in
     let item = took_as_read g.W.Unit.AsciiFold.fold unit.unit g.met.W.Unit.AsciiFold.folds S.can_next S.next_gives S.remaining c.args.folds c.units.source c.in-Some.unit c.next_at.new.self taken.steps taken.goes in
-    IsReady-more S.can_next S.next_gives S.remaining (unit_as_read c.args.folds unit.unit) unit.width c.units.source item.item c.next_at.new.self (W.read c.units.walk) (W.read c.advance.new.self) c.units.invariant.ready item.took item.goes
-    (c.advance.ensures.read ∙ ap (λ n. W.read c.units.walk ++ n ∷ []) item.is)
+    IsReady-more S.can_next S.next_gives S.remaining (unit_as_read c.args.folds unit.unit) unit.width c.units.source item.item c.next_at.new.self (view.read c.units.walk) (view.read c.advance.new.self) c.units.invariant.ready item.took item.goes
+    (c.advance.ensures.read ∙ ap (λ n. view.read c.units.walk ++ n ∷ []) item.is)
 
 -- nothing is found at the end of the unit
 pub units-preserved : goal.units-preserved
 units-preserved g c =
-    let W = g.W.Stepwise in let S = g.S.Iterator in let unit = g.W.Unit.EdgeLabel in
+    let view = g.W.Stepwise.sees in let S = g.S.Iterator in let unit = g.W.Unit.EdgeLabel in
     let now = c.advance.new.self in let taken = c.in-Some.ensures in let stops = c.advance.ensures.stops in let was = c.units.invariant in
     let item = took_as_read g.W.Unit.AsciiFold.fold unit.unit g.met.W.Unit.AsciiFold.folds S.can_next S.next_gives S.remaining c.args.folds c.units.source c.in-Some.unit c.next_at.new.self taken.steps taken.goes in
-    let read = c.advance.ensures.read ∙ ap (λ n. W.read c.units.walk ++ n ∷ []) item.is in
-    let none : W.found (W.automaton now) (W.read now) ≡ [] = none_found (W.found (W.automaton now) (W.read now)) (W.given_from now) c.advance.result stops.matches c.in_default-advance.is (g.met.W.Stepwise.no_output now).1 in
+    let read = c.advance.ensures.read ∙ ap (λ n. view.read c.units.walk ++ n ∷ []) item.is in
+    let none : view.found (view.automaton now) (view.read now) ≡ [] = none_found (view.given_from now) stops.matches c.in_default-advance.is (g.met.W.Stepwise.no_output now).1 in
     record {
       over = (
         was.over.0 ++ item.item ∷ [],
-        ScansOver-more W.automaton W.read W.found S.next_gives S.remaining (unit_as_read c.args.folds unit.unit) c.args.walk.now c.args.source.now was.over.0 c.units.walk c.units.source item.item now c.next_at.new.self was.over.1
-            item.took (item.goes.on was.ready.ends).2 c.advance.ensures.automaton read none,
+        ScansOver-more was.over.1 item.took (item.goes.on was.ready.ends).2 c.advance.ensures.automaton read none,
       );
-      ready = IsReady-more S.can_next S.next_gives S.remaining (unit_as_read c.args.folds unit.unit) unit.width c.units.source item.item c.next_at.new.self (W.read c.units.walk) (W.read now) was.ready item.took item.goes read;
-      here = omega (arith, was.here, c.in-Some.ensures.place, ap (size unit.width) c.advance.ensures.read, size-push unit.width (W.read c.units.walk) (unit.unit c.in-Some.unit));
+      ready = IsReady-more S.can_next S.next_gives S.remaining (unit_as_read c.args.folds unit.unit) unit.width c.units.source item.item c.next_at.new.self (view.read c.units.walk) (view.read now) was.ready item.took item.goes read;
+      here = omega (arith, was.here, c.in-Some.ensures.place, ap (size unit.width) c.advance.ensures.read, size-push unit.width (view.read c.units.walk) (unit.unit c.in-Some.unit));
     }

@@ -9,11 +9,11 @@ use Rattle.daachorse_search.proofs.scan.scan_units.Given as goal
 
 abbrev pub invariant-units : goal.invariant-units
 invariant-units g l =
-    let S = g.S.Iterator in let W = g.W.Stepwise in let unit = g.W.Unit.EdgeLabel in
+    let S = g.S.Iterator in let view = g.W.Stepwise.sees in let unit = g.W.Unit.EdgeLabel in
     record {
-      over : (xs : List g.row.W-Unit.Denot) × ScansOver W.automaton W.read W.found S.next_gives S.remaining (unit_as_read l.folds unit.unit) l.fn.walk l.fn.source xs l.walk l.source;
-      ready : IsReady S.can_next S.next_gives S.remaining (unit_as_read l.folds unit.unit) unit.width l.source (size unit.width (W.read l.walk));
-      here : l.place ≡ size unit.width (W.read l.walk);
+      over : (xs : List g.row.W-Unit.Denot) × ScansOver view S.next_gives S.remaining (unit_as_read l.folds unit.unit) l.fn.walk l.fn.source xs l.walk l.source;
+      ready : IsReady S.can_next S.next_gives S.remaining (unit_as_read l.folds unit.unit) unit.width l.source (size unit.width (view.read l.walk));
+      here : l.place ≡ size unit.width (view.read l.walk);
     }
 
 abbrev pub decreases-units : goal.decreases-units

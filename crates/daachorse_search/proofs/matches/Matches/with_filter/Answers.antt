@@ -6,5 +6,5 @@ use Rattle.daachorse_search.proofs.matches.Matches.with_filter.Goals as goal
 
 pub returns-clause-left : goal.returns-clause-left
 returns-clause-left g c =
-    let W = g.W.Stepwise in let rest = g.H.Haystack.rest in
-    left_first g.W.Unit.EdgeLabel.width W.automaton W.read W.turns W.found W.content W.looks_at W.ends_at_once W.given_from (rest c.of-2.result.value) (rest c.args.haystack) c.args.walk (next_position c.place_first-first.result.0 c.place_first-first.result.1) (ap rest c.of-2.ensures) c.requires.begins c.place_first-first.ensures.stops
+    let view = g.W.Stepwise.sees in let rest = g.H.Haystack.rest in
+    left_first g.W.Unit.EdgeLabel.width view (rest c.of-2.result.value) (rest c.args.haystack) c.args.walk (next_position c.place_first-first.result.0 c.place_first-first.result.1) (ap rest c.of-2.ensures) c.requires.begins c.place_first-first.ensures.stops

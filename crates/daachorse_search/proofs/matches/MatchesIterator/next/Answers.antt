@@ -1,5 +1,5 @@
 -- A call comes to the next output, by going on where none is pending, and gives its match; what is left begins with it.
-use Rattle.std.proofs.Common.{◌≡◌, ◌+◌, ◌-◌, ◌∷◌, ℕ, List, [], length, Option, Some, None, refl, sym, ap, ◌∙◌, subst, arith}
+use Rattle.std.proofs.Common.{◌≡◌, ◌+◌, ◌∷◌, ℕ, List, [], length, Option, Some, None, refl, sym, ap, ◌∙◌, subst, arith}
 use Rattle.std.specs.Prelude.{IfNone, IfSome}
 use Rattle.std.specs.declared.num.NonZeroU32.{NonZeroU32}
 use Rattle.daachorse_core.specs.Outputs.{number}
@@ -9,8 +9,8 @@ use Rattle.daachorse_model.specs.Units.{size}
 use Rattle.daachorse_search.specs.declared.matches.Matches.TheInside.{Inside}
 use Rattle.daachorse_search.specs.LeftmostSearches.{before_rest}
 use Rattle.daachorse_search.specs.Matches.{Progress, GaveMatch, GaveNone, GivesFirst, StandsAtEnd}
-use Rattle.daachorse_search.specs.Skipping.{next_position, ComesTo, HasNoPlace}
-use Rattle.daachorse_search.proofs.SkipLaws.{SkipsTo-places, no_place_on, reading, left_of, reading-on, reading-gives, reading-ended, place_is}
+use Rattle.daachorse_search.specs.Skipping.{matches_behind, next_position, ComesTo, HasNoPlace, IsReading}
+use Rattle.daachorse_search.proofs.SkipLaws.{SkipsTo-places, no_place_on, reading-on, reading-gives, reading-ended, place_is}
 use Rattle.daachorse_search.proofs.matches.MatchesIterator.next.Given as given
 use Rattle.daachorse_search.proofs.matches.MatchesIterator.next.Goals as goal
 use Rattle.daachorse_search.proofs.matches.MatchesIterator.next.Goals.{in-Some, in-None+in_ok-position-in-None}
@@ -21,20 +21,20 @@ Ins g = Inside g.row.V.Denot g.row.W.Denot g.row.H.Denot g.row.F.Denot g.row.W-U
 -- the search stands so, with the next output at the position
 abbrev standing : (g : given.Over) → Ins g → ℕ → Type 0
 standing g i position =
-    let W = g.W.Stepwise in let F = g.F.Filter in let rest = g.H.Haystack.rest in
-    ((w : List ℕ) → F.passes i.filter w ≡ F.passes i.first_filter.value w) × reading g.W.Unit.EdgeLabel.width W.automaton W.read W.turns W.found W.content W.looks_at W.ends_at_once W.has_output W.given_from (F.passes i.first_filter.value) (F.opened i.first_filter.value) (rest i.whole.value) i.size (F.opened i.filter) i.walk (rest i.rest) position i.taken
+    let view = g.W.Stepwise.sees in let F = g.F.Filter in let rest = g.H.Haystack.rest in
+    ((w : List ℕ) → F.passes i.filter w ≡ F.passes i.first_filter.value w) × IsReading g.W.Unit.EdgeLabel.width view (F.passes i.first_filter.value) (F.opened i.first_filter.value) (rest i.whole.value) i.size (F.opened i.filter) i.walk (rest i.rest) position i.taken
 
 abbrev left_at : (g : given.Over) → Ins g → ℕ → List (Match g.row.V.Denot)
 left_at g i position =
-    let W = g.W.Stepwise in let F = g.F.Filter in let rest = g.H.Haystack.rest in
-    left_of g.W.Unit.EdgeLabel.width W.automaton W.read W.turns W.found W.content W.looks_at W.ends_at_once W.has_output W.given_from (F.passes i.first_filter.value) (F.opened i.first_filter.value) (rest i.whole.value) i.size i.walk (rest i.rest) position
+    let view = g.W.Stepwise.sees in let F = g.F.Filter in let rest = g.H.Haystack.rest in
+    matches_behind g.W.Unit.EdgeLabel.width view (rest i.whole.value) i.walk (rest i.rest) position
 
 -- a call that began as `was` came to the output at the position
 record Came (g : given.Over) (was now : Ins g) (position : ℕ) : Type 0 where
   filter : now.first_filter ≡ was.first_filter
   whole : now.whole ≡ was.whole
   seen : now.seen ≡ was.seen
-  automaton : g.W.Stepwise.automaton now.walk ≡ g.W.Stepwise.automaton was.walk
+  automaton : g.W.Stepwise.sees.automaton now.walk ≡ g.W.Stepwise.sees.automaton was.walk
   none : now.first ≡ None
   stands : standing g now position
   left : left_at g was (next_position was.first was.output) ≡ left_at g now position
@@ -54,29 +54,29 @@ apart_none first E none = let P : Option NonZeroU32 → Type 0 = λ f. IfSome f 
 -- none was pending, and the search came to the first of all, or went on
 went_on : (g : given.Over) (was : Ins g) (known : Option NonZeroU32) (walk : g.row.W.Denot) (later : g.row.H.Denot) (taken position : ℕ) (filter : g.row.F.Denot) (first : Option NonZeroU32) → standing g was (next_position was.first was.output) → was.output ≡ None → was.first ≡ known → first ≡ None
     → ((w : List ℕ) → g.F.Filter.passes filter w ≡ g.F.Filter.passes was.filter w)
-    → ComesTo g.W.Unit.EdgeLabel.width g.W.Stepwise.automaton g.W.Stepwise.read g.W.Stepwise.found g.W.Stepwise.looks_at g.W.Stepwise.ends_at_once (g.F.Filter.passes was.filter) known was.walk (g.H.Haystack.rest was.rest) was.taken position (g.W.Stepwise.given_from walk position) walk (g.H.Haystack.rest later) taken
-    → g.W.Stepwise.has_output walk position
-    → IfNone known (HasNoPlace (g.F.Filter.passes was.filter) (g.F.Filter.opened was.filter) (g.W.Stepwise.read was.walk) (g.H.Haystack.rest was.rest) → (taken + g.W.Stepwise.turns walk ≡ was.taken + g.W.Stepwise.turns was.walk) × (g.H.Haystack.rest later ≡ []))
+    → ComesTo g.W.Unit.EdgeLabel.width g.W.Stepwise.sees (g.F.Filter.passes was.filter) known was.walk (g.H.Haystack.rest was.rest) was.taken position (g.W.Stepwise.sees.given_from walk position) walk (g.H.Haystack.rest later) taken
+    → g.W.Stepwise.sees.has_output walk position
+    → IfNone known (HasNoPlace (g.F.Filter.passes was.filter) (g.F.Filter.opened was.filter) (g.W.Stepwise.sees.read was.walk) (g.H.Haystack.rest was.rest) → (taken + g.W.Stepwise.sees.turns walk ≡ was.taken + g.W.Stepwise.sees.turns was.walk) × (g.H.Haystack.rest later ≡ []))
     → IfSome known (λ _. filter ≡ was.filter)
     → Came g was (record was { walk = walk; taken = taken; rest = later; filter = filter; first = first }) position
 went_on g was None walk later taken position filter first stands pending is none places reads output idle kept =
-    let W = g.W.Stepwise in let F = g.F.Filter in let rest = g.H.Haystack.rest in let begun = F.passes was.first_filter.value in
+    let view = g.W.Stepwise.sees in let F = g.F.Filter in let rest = g.H.Haystack.rest in let begun = F.passes was.first_filter.value in
     let zero : next_position was.first was.output ≡ 0 = next_is was.first was.output None is ∙ ap number pending in
-    let R : ℕ → Type 0 = λ n. reading g.W.Unit.EdgeLabel.width W.automaton W.read W.turns W.found W.content W.looks_at W.ends_at_once W.has_output W.given_from begun (F.opened was.first_filter.value) (rest was.whole.value) was.size (F.opened was.filter) was.walk (rest was.rest) n was.taken in
-    let on = reading-on g.W.Unit.EdgeLabel.width W.automaton W.read W.turns W.found W.content W.looks_at W.ends_at_once W.has_output W.given_from begun (F.opened was.first_filter.value) (rest was.whole.value) was.size (F.opened was.filter) (F.opened filter) was.walk (rest was.rest) was.taken walk (rest later) taken position (subst R zero stands.1) (g.met.W.Stepwise.no_output was.walk).1
-    (SkipsTo-places g.W.Unit.EdgeLabel.width W.automaton W.read W.turns W.found W.content W.looks_at W.ends_at_once begun (F.passes was.filter) was.walk (rest was.rest) was.taken (W.given_from walk position) walk (rest later) taken stands.0 reads) output
-    (λ nowhere. idle (no_place_on begun (F.passes was.filter) (F.opened was.filter) (W.read was.walk) (rest was.rest) stands.0 nowhere)) in
+    let R : ℕ → Type 0 = λ n. IsReading g.W.Unit.EdgeLabel.width view begun (F.opened was.first_filter.value) (rest was.whole.value) was.size (F.opened was.filter) was.walk (rest was.rest) n was.taken in
+    let on = reading-on (subst R zero stands.1) (g.met.W.Stepwise.no_output was.walk).1
+    (SkipsTo-places stands.0 reads) output
+    (λ nowhere. idle (no_place_on begun (F.passes was.filter) (F.opened was.filter) (view.read was.walk) (rest was.rest) stands.0 nowhere)) in
     record { filter = refl; whole = refl; seen = refl; automaton = reads.same; none = none; stands = (λ w. places w ∙ stands.0 w, on.0); left = ap (left_at g was) zero ∙ on.1 }
 went_on g was (Some p) walk later taken position filter first stands pending is none places reads output idle kept =
-    let W = g.W.Stepwise in let F = g.F.Filter in let rest = g.H.Haystack.rest in let begun = F.passes was.first_filter.value in
+    let view = g.W.Stepwise.sees in let F = g.F.Filter in let rest = g.H.Haystack.rest in let begun = F.passes was.first_filter.value in
     let here : next_position was.first was.output ≡ position = next_is was.first was.output (Some p) is ∙ sym reads.0 in
-    let R : g.row.F.Denot → g.row.W.Denot → List ℕ → ℕ → ℕ → Type 0 = λ f w l n t. reading g.W.Unit.EdgeLabel.width W.automaton W.read W.turns W.found W.content W.looks_at W.ends_at_once W.has_output W.given_from begun (F.opened was.first_filter.value) (rest was.whole.value) was.size (F.opened f) w l n t in
-    let L : g.row.W.Denot → List ℕ → ℕ → List (Match g.row.V.Denot) = λ w l n. left_of g.W.Unit.EdgeLabel.width W.automaton W.read W.turns W.found W.content W.looks_at W.ends_at_once W.has_output W.given_from begun (F.opened was.first_filter.value) (rest was.whole.value) was.size w l n in
+    let R : g.row.F.Denot → g.row.W.Denot → List ℕ → ℕ → ℕ → Type 0 = λ f w l n t. IsReading g.W.Unit.EdgeLabel.width view begun (F.opened was.first_filter.value) (rest was.whole.value) was.size (F.opened f) w l n t in
+    let L : g.row.W.Denot → List ℕ → ℕ → List (Match g.row.V.Denot) = λ w l n. matches_behind g.W.Unit.EdgeLabel.width view (rest was.whole.value) w l n in
     record {
       filter = refl;
       whole = refl;
       seen = refl;
-      automaton = ap W.automaton reads.1;
+      automaton = ap view.automaton reads.1;
       none = none;
       stands = (λ w. places w ∙ stands.0 w, subst (λ f. R f walk (rest later) position taken) (sym kept) (subst (λ w. R was.filter w (rest later) position taken) (sym reads.1) (subst (λ l. R was.filter was.walk l position taken) (sym reads.2) (subst (λ t. R was.filter was.walk (rest was.rest) position t) (sym reads.3) (subst (λ n. R was.filter was.walk (rest was.rest) n was.taken) here stands.1)))));
       left = ap (left_at g was) here ∙ ap (λ w. L w (rest was.rest) position) (sym reads.1) ∙ ap (λ l. L walk l position) (sym reads.2);
@@ -100,7 +100,7 @@ came : (g : given.Over) (c : goal.After-left g) → Came g c.self.inside c.match
 came g c =
     let was = c.self.inside in let now = c.match-self.self-inside in let p = c.match-self.position in
     elim c.match-self.branch [
-      | in-Some w ↦ pending_came g was now p w.in-Some.position (c.self.invariant.0, c.self.invariant.1) (none_apart (g.W.Stepwise.everywhere was.walk) was.first was.output w.in-Some.position c.self.invariant.2 w.in-Some.is) w.in-Some.is w.position-is w.self-inside-is
+      | in-Some w ↦ pending_came g was now p w.in-Some.position (c.self.invariant.0, c.self.invariant.1) (none_apart (g.W.Stepwise.sees.everywhere was.walk) was.first was.output w.in-Some.position c.self.invariant.2 w.in-Some.is) w.in-Some.is w.position-is w.self-inside-is
       | in-None+in_ok-position-in-None w ↦
           let to = w.go_on.new in let found = w.in_ok-position-in-None in
           same_came g was (record was { walk = to.walk; taken = to.taken; rest = to.rest; filter = to.filter; first = to.first }) now p found.position
@@ -111,7 +111,7 @@ came_on : (g : given.Over) (c : goal.After-give g) → Came g c.self.inside c.ma
 came_on g c =
     let was = c.self.inside in let now = c.match-self.self-inside in let p = c.match-self.position in
     elim c.match-self.branch [
-      | in-Some w ↦ pending_came g was now p w.in-Some.position (c.self.invariant.0, c.self.invariant.1) (none_apart (g.W.Stepwise.everywhere was.walk) was.first was.output w.in-Some.position c.self.invariant.2 w.in-Some.is) w.in-Some.is w.position-is w.self-inside-is
+      | in-Some w ↦ pending_came g was now p w.in-Some.position (c.self.invariant.0, c.self.invariant.1) (none_apart (g.W.Stepwise.sees.everywhere was.walk) was.first was.output w.in-Some.position c.self.invariant.2 w.in-Some.is) w.in-Some.is w.position-is w.self-inside-is
       | in-None+in_ok-position-in-None w ↦
           let to = w.go_on.new in let found = w.in_ok-position-in-None in
           same_came g was (record was { walk = to.walk; taken = to.taken; rest = to.rest; filter = to.filter; first = to.first }) now p found.position
@@ -120,13 +120,13 @@ came_on g c =
 
 pub overflow_sub-place : goal.overflow_sub-place
 overflow_sub-place g c =
-    let W = g.W.Stepwise in let F = g.F.Filter in let rest = g.H.Haystack.rest in let now = c.match-self.self-inside in
-    omega (arith, place_is g.W.Unit.EdgeLabel.width W.automaton W.read W.turns W.found W.content W.looks_at W.ends_at_once W.has_output W.given_from (F.passes now.first_filter.value) (F.opened now.first_filter.value) (rest now.whole.value) now.size (F.opened now.filter) now.walk (rest now.rest) c.match-self.position.value now.taken (came g c).stands.1, c.left.ensures)
+    let view = g.W.Stepwise.sees in let F = g.F.Filter in let rest = g.H.Haystack.rest in let now = c.match-self.self-inside in
+    omega (arith, place_is (came g c).stands.1, c.left.ensures)
 
 pub give-found-requires-clause-here : goal.give-found-requires-clause-here
 give-found-requires-clause-here g c =
-    let W = g.W.Stepwise in let F = g.F.Filter in let rest = g.H.Haystack.rest in let now = c.match-self.self-inside in
-    omega (arith, place_is g.W.Unit.EdgeLabel.width W.automaton W.read W.turns W.found W.content W.looks_at W.ends_at_once W.has_output W.given_from (F.passes now.first_filter.value) (F.opened now.first_filter.value) (rest now.whole.value) now.size (F.opened now.filter) now.walk (rest now.rest) c.match-self.position.value now.taken (came g c).stands.1, c.left.ensures)
+    let view = g.W.Stepwise.sees in let F = g.F.Filter in let rest = g.H.Haystack.rest in let now = c.match-self.self-inside in
+    omega (arith, place_is (came g c).stands.1, c.left.ensures)
 
 pub give-found-requires-clause-output : goal.give-found-requires-clause-output
 give-found-requires-clause-output g c = (came g c).stands.1.output
@@ -139,26 +139,26 @@ invariant_of-self g c =
     let P : ℕ → Type 0 = λ n. standing g after n in
     let gone : Came g was after (number c.go_on.result) = went_on g was was.first to.walk to.rest to.taken (number c.go_on.result) to.filter to.first (c.self.invariant.0, c.self.invariant.1) c.in-None.is refl found.first found.passes found.comes found.output found.idle found.kept in
     let stands : standing g after (next_position to.first was.output) = subst P (ap number c.in_err-position-in-None.was ∙ sym (ap number c.in-None.is) ∙ sym (next_is to.first was.output None found.first)) gone.stands in
-    (stands.0, stands.1, apart_none to.first (g.W.Stepwise.everywhere to.walk × (was.output ≡ None)) found.first)
+    (stands.0, stands.1, apart_none to.first (g.W.Stepwise.sees.everywhere to.walk × (was.output ≡ None)) found.first)
 
 pub returns-in_err-position-in-None-clause-steps : goal.returns-in_err-position-in-None-clause-steps
 returns-in_err-position-in-None-clause-steps g c =
-    let W = g.W.Stepwise in let F = g.F.Filter in let rest = g.H.Haystack.rest in
+    let view = g.W.Stepwise.sees in let F = g.F.Filter in let rest = g.H.Haystack.rest in
     let was = c.self.inside in let to = c.go_on.new in let found = c.go_on.ensures in
     let after : Ins g = record was { walk = to.walk; taken = to.taken; rest = to.rest; filter = to.filter; first = to.first } in
     let C : ℕ → Type 0 = λ n. Came g was after n in
     let gone : Came g was after 0 = subst C (ap number c.in_err-position-in-None.was) (went_on g was was.first to.walk to.rest to.taken (number c.go_on.result) to.filter to.first (c.self.invariant.0, c.self.invariant.1) c.in-None.is refl found.first found.passes found.comes found.output found.idle found.kept) in
     let E : Option NonZeroU32 → Type 0 = λ r. IfNone r (rest to.rest ≡ []) in
     let over : rest to.rest ≡ [] = subst E c.in_err-position-in-None.was found.ended in
-    let ended = reading-ended g.W.Unit.EdgeLabel.width W.automaton W.read W.turns W.found W.content W.looks_at W.ends_at_once W.has_output W.given_from (F.passes after.first_filter.value) (F.opened after.first_filter.value) (rest after.whole.value) after.size (F.opened after.filter) to.walk (rest to.rest) to.taken gone.stands.1 (g.met.W.Stepwise.no_output to.walk).1 over in
+    let ended = reading-ended gone.stands.1 (g.met.W.Stepwise.no_output to.walk).1 over in
     let t : Progress g.row.V.Denot g.row.W-Automaton.Denot g.row.F.Denot = record {
-      automaton = W.automaton to.walk;
+      automaton = view.automaton to.walk;
       filter = was.first_filter.value;
       haystack = rest was.whole.value;
       left = left_at g after (next_position to.first was.output);
       passed = before_rest (rest was.whole.value) (rest to.rest);
-      since = W.read to.walk;
-      turns = to.taken + W.turns to.walk;
+      since = view.read to.walk;
+      turns = to.taken + view.turns to.walk;
       given = was.seen.given;
     } in
     let P : Progress g.row.V.Denot g.row.W-Automaton.Denot g.row.F.Denot → Type 0 = λ s. GaveNone (StandsAtEnd {V = g.row.V.Denot} g.W.Unit.EdgeLabel.width) s t in
@@ -185,30 +185,30 @@ gives : (g : given.Over) (c : goal.After-give g) → standing g (given_on g c) (
     × (left_at g c.match-self.self-inside c.match-self.position.value ≡ c.give-found.result.0 ∷ left_at g (given_on g c) (number c.give-found.result.1))
     × (c.give-found.result.0.end ≡ size g.W.Unit.EdgeLabel.width (before_rest (g.H.Haystack.rest c.match-self.self-inside.whole.value) (g.H.Haystack.rest c.match-self.self-inside.rest)))
 gives g c =
-    let W = g.W.Stepwise in let F = g.F.Filter in let rest = g.H.Haystack.rest in let now = c.match-self.self-inside in let found = c.give-found in
+    let view = g.W.Stepwise.sees in let F = g.F.Filter in let rest = g.H.Haystack.rest in let now = c.match-self.self-inside in let found = c.give-found in
     let stands = (came_on g c).stands in
-    let next = reading-gives g.W.Unit.EdgeLabel.width W.automaton W.read W.turns W.found W.content W.looks_at W.ends_at_once W.has_output W.given_from (F.passes now.first_filter.value) (F.opened now.first_filter.value) (rest now.whole.value) now.size (F.opened now.filter) now.walk (rest now.rest) c.match-self.position.value (number found.result.1) now.taken (now.size - c.left.result) found.result.0 stands.1
-    (omega (arith, place_is g.W.Unit.EdgeLabel.width W.automaton W.read W.turns W.found W.content W.looks_at W.ends_at_once W.has_output W.given_from (F.passes now.first_filter.value) (F.opened now.first_filter.value) (rest now.whole.value) now.size (F.opened now.filter) now.walk (rest now.rest) c.match-self.position.value now.taken stands.1, c.left.ensures)) found.ensures.given found.ensures.ends found.ensures.place in
+    let next = reading-gives stands.1
+    (omega (arith, place_is stands.1, c.left.ensures)) found.ensures.given found.ensures.ends found.ensures.place in
     ((stands.0, next.0), next.1, next.2)
 
 pub invariant_of-self-2 : goal.invariant_of-self-2
 invariant_of-self-2 g c =
     let now = given_on g c in let none = (came_on g c).none in
     let stands : standing g now (next_position now.first now.output) = subst (standing g now) (sym (next_is now.first now.output None none)) (gives g c).0 in
-    (stands.0, stands.1, apart_none now.first (g.W.Stepwise.everywhere now.walk × (now.output ≡ None)) none)
+    (stands.0, stands.1, apart_none now.first (g.W.Stepwise.sees.everywhere now.walk × (now.output ≡ None)) none)
 
 -- what callers see then
 abbrev seen_on : (g : given.Over) (c : goal.After-give g) → Progress g.row.V.Denot g.row.W-Automaton.Denot g.row.F.Denot
 seen_on g c =
-    let W = g.W.Stepwise in let rest = g.H.Haystack.rest in let now = c.match-self.self-inside in
+    let view = g.W.Stepwise.sees in let rest = g.H.Haystack.rest in let now = c.match-self.self-inside in
     record {
-      automaton = W.automaton now.walk;
+      automaton = view.automaton now.walk;
       filter = now.first_filter.value;
       haystack = rest now.whole.value;
       left = left_at g (given_on g c) (next_position now.first c.give-found.result.1);
       passed = before_rest (rest now.whole.value) (rest now.rest);
-      since = W.read now.walk;
-      turns = now.taken + W.turns now.walk;
+      since = view.read now.walk;
+      turns = now.taken + view.turns now.walk;
       given = c.give.new.self.given;
     }
 

@@ -17,13 +17,8 @@ use Rattle.daachorse_search.specs.Scans.{past_each_end}
 use Rattle.daachorse_search.specs.Stepwise.{StepView}
 use Rattle.daachorse_search.proofs.AfreshLaws.{shifted-none, shifted-twice}
 use Rattle.daachorse_haystack.proofs.FilterLaws.{none_starts-skipped, count_passing-more, count_passing-most, count_passing-none}
-use Rattle.daachorse_search.proofs.LeftmostLaws.{before_rest-is}
+use Rattle.daachorse_search.proofs.LeftmostLaws.{before_rest-is, nil_from_size}
 use Rattle.daachorse_search.proofs.ScanLaws.{at_each_end-split}
-
--- units that take no byte are none
-pub nil_from_size : (width : ℕ → ℕ) → ((u : ℕ) → 1 ≤ width u) → (w : List ℕ) → size width w ≡ 0 → w ≡ []
-nil_from_size width wide [] none = refl
-nil_from_size width wide (u ∷ w) none = absurd (omega (arith, none, wide u))
 
 -- a filter with the same places is sound for the same dictionary
 pub sound_on : {V : Type 0} {K L : Dictionary V} {p q : List ℕ → Bool} → L ≡ K → ((w : List ℕ) → q w ≡ p w) → IsSoundFor p K → IsSoundFor q L

@@ -1,5 +1,5 @@
 -- A scan for the leftmost match, one unit further: the best of what was read, and what is final where the scan stops.
-use Rattle.std.proofs.Common.{◌≡◌, ◌≢◌, ℕ, ◌+◌, ◌-◌, ◌<◌, ◌≤◌, inl, inr, Bool, cond, true, List, [], ◌∷◌, ◌++◌, length, take, Option, Some, None, refl, sym, ap, ◌∙◌, subst, append_assoc, append-nil, length-append, arith}
+use Rattle.std.proofs.Common.{◌≡◌, ◌≢◌, ℕ, ◌+◌, ◌-◌, ◌*◌, ◌<◌, ◌≤◌, inl, inr, Bool, cond, true, List, [], ◌∷◌, ◌++◌, length, take, Option, Some, None, refl, sym, ap, ◌∙◌, subst, append_assoc, append-nil, length-append, arith}
 use Rattle.std.specs.Prelude.{count_by}
 use Rattle.std.proofs.lemmas.List.{take_at}
 use Rattle.std.proofs.lemmas.List.Sums.{sum_by-append, sum_by_push}
@@ -189,6 +189,25 @@ module _ {V : Type 0} (width : ℕ → ℕ) (view : AutomatonView V) (text : Lis
     least = omega (arith, was.least, least, labelled-push was.seen u);
   }
 
+  -- the match that is pending is the best
+  pending_best : (left t : List ℕ) (position behind : ℕ) (f : Found) (before turns later : ℕ) (was : Scanning left t (Some (position, behind)) before turns) → f.position.value ≡ position → f.end + behind ≡ size width text
+      → IsBest K text was.found.front was.found.key → turns ≤ later → later ≤ turns + length t + 2 → later ≤ before + 2 * length text → before + labelled (take 1 text) ≤ later → IsTheBest width view text f.position.value f.end before later
+  pending_best left t position behind f before turns later was same ended best fewer few most first =
+      let found = was.found in
+      let Q : ℕ → Type 0 = λ p. IsOutputOf width view p found.key in
+      let cut : was.seen ≡ (found.front ++ found.key) ++ found.best.rest = found.best.occurs.parts ∙ sym (append_assoc found.front found.key found.best.rest) in
+      record {
+        front = found.front;
+        key = found.key;
+        best = best;
+        ends = omega (arith, ended, found.ends);
+        output = subst Q (sym same) found.output;
+        most = most;
+        near = λ m bound. omega (arith, was.counted, few, near_occurrence K was.seen t m bound was.steady found.front found.key found.best.rest found.best.occurs);
+        least = omega (arith, was.least, fewer, ap labelled cut, labelled-append (found.front ++ found.key) found.best.rest);
+        first = first;
+      }
+
   -- the scan comes to the root while a match is pending
   pub IsTheBest-stops : (left t : List ℕ) (position behind : ℕ) (f : Found) (before turns u : ℕ) (more r : List ℕ) (later : ℕ)
       → (was : Scanning left t (Some (position, behind)) before turns) → f.position.value ≡ position → f.end + behind ≡ size width text → left ≡ u ∷ more → LeftSteps K was.seen u r → r ≡ []
@@ -196,45 +215,19 @@ module _ {V : Type 0} (width : ℕ → ℕ) (view : AutomatonView V) (text : Lis
       → IsTheBest width view text f.position.value f.end before later
   IsTheBest-stops left t position behind f before turns u more r later was same ended next steps empty most least =
       let w = was.seen in
-      let found = was.found in
-      let Q : ℕ → Type 0 = λ p. IsOutputOf width view p found.key in
       let whole : text ≡ w ++ u ∷ more = was.parts ∙ ap (λ x. w ++ x) next in
-      let P : List ℕ → Type 0 = λ x. IsBest K x found.front found.key in
-      let cut : w ≡ (found.front ++ found.key) ++ found.best.rest = found.best.occurs.parts ∙ sym (append_assoc found.front found.key found.best.rest) in
-      let many : length text ≡ length w + (1 + length more) = ap length whole ∙ (length-append w (u ∷ more) ∙ (let e : length w + length (u ∷ more) ≡ length w + (1 + length more) = omega arith in e)) in
-      record {
-        front = found.front;
-        key = found.key;
-        best = subst P (sym whole) (final K w r u more found.front found.key steps empty found.best);
-        ends = omega (arith, ended, found.ends);
-        output = subst Q (sym same) found.output;
-        most = omega (arith, was.counted, most, many);
-        near = λ m bound. omega (arith, was.counted, most, near_occurrence K w t m bound was.steady found.front found.key found.best.rest found.best.occurs);
-        least = omega (arith, was.least, least, ap labelled cut, labelled-append (found.front ++ found.key) found.best.rest);
-        first = omega (arith, was.least, least, ap (λ x. labelled (take 1 x)) whole, labelled-first w u more, labelled-push w u);
-      }
+      let P : List ℕ → Type 0 = λ x. IsBest K x was.found.front was.found.key in
+      pending_best left t position behind f before turns later was same ended (subst P (sym whole) (final K w r u more was.found.front was.found.key steps empty was.found.best)) (omega (arith, least)) (omega (arith, most))
+      (omega (arith, was.counted, most, ap length whole, length-append w (u ∷ more))) (omega (arith, was.least, least, ap (λ x. labelled (take 1 x)) whole, labelled-first w u more, labelled-push w u))
 
   -- the text ends while a match is pending
   pub IsTheBest-ends : (left t : List ℕ) (position behind : ℕ) (f : Found) (before turns : ℕ) → Scanning left t (Some (position, behind)) before turns → f.position.value ≡ position → f.end + behind ≡ size width text → left ≡ []
       → IsTheBest width view text f.position.value f.end before turns
   IsTheBest-ends left t position behind f before turns was same ended none =
-      let w = was.seen in
-      let found = was.found in
-      let Q : ℕ → Type 0 = λ p. IsOutputOf width view p found.key in
-      let whole : text ≡ w = was.parts ∙ (ap (λ x. w ++ x) none ∙ append-nil w) in
-      let P : List ℕ → Type 0 = λ x. IsBest K x found.front found.key in
-      let cut : w ≡ (found.front ++ found.key) ++ found.best.rest = found.best.occurs.parts ∙ sym (append_assoc found.front found.key found.best.rest) in
-      record {
-        front = found.front;
-        key = found.key;
-        best = subst P (sym whole) found.best;
-        ends = omega (arith, ended, found.ends);
-        output = subst Q (sym same) found.output;
-        most = omega (arith, was.counted, ap length whole);
-        near = λ m bound. omega (arith, was.counted, near_occurrence K w t m bound was.steady found.front found.key found.best.rest found.best.occurs);
-        least = omega (arith, was.least, ap labelled cut, labelled-append (found.front ++ found.key) found.best.rest);
-        first = omega (arith, was.least, ap (λ x. labelled (take 1 x)) whole, labelled-one w);
-      }
+      let whole : text ≡ was.seen = was.parts ∙ (ap (λ x. was.seen ++ x) none ∙ append-nil was.seen) in
+      let P : List ℕ → Type 0 = λ x. IsBest K x was.found.front was.found.key in
+      pending_best left t position behind f before turns turns was same ended (subst P (sym whole) was.found.best) (omega arith) (omega arith) (omega (arith, was.counted, ap length whole))
+      (omega (arith, was.least, ap (λ x. labelled (take 1 x)) whole, labelled-one was.seen))
 
   -- where none is pending, no key is empty
   no_empty_of : (w : List ℕ) → IsBestSoFar K w None → K [] ≡ []

@@ -7,7 +7,6 @@ pub mod JoinLaws
 pub mod RightLinks
 pub mod SizeLaws
 pub mod CountLaws
-pub mod LeafLaws
 pub mod ChainedLaws
 pub mod CheckedLaws
 pub mod FilterLaws

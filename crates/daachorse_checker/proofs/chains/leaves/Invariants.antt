@@ -1,5 +1,4 @@
 -- A place counts as a leaf just as long as no place looked at so far, from 1 on, has it for its parent.
-use Rattle.std.proofs.Common.{◌-◌}
 use Rattle.daachorse_checker.specs.Chains.{AreLeavesOf}
 use Rattle.daachorse_checker.proofs.chains.leaves.Given as goal
 

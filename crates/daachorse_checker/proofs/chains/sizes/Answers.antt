@@ -1,6 +1,7 @@
 -- A text is its parent's text and one unit more, so its size is that of its parent, which comes earlier, and the unit's width; the root's text is empty.
 use Rattle.std.proofs.Common.{rules, ◌≡◌, ℕ, ◌+◌, ◌*◌, ◌<◌, ◌≤◌, List, [], ◌∷◌, ◌++◌, length, sym, ap, ◌∙◌, subst, arith, get_or}
 use Rattle.std.proofs.lemmas.List.{get_or_read, length_push}
+use Rattle.std.proofs.lemmas.Grind.{elements}
 use Rattle.daachorse_checker.specs.Sizes.{AreSizes}
 use Rattle.daachorse_checker.proofs.PlaceLaws.{few}
 use Rattle.daachorse_checker.proofs.SizeLaws.{size_root, size_push, short_push}
@@ -62,3 +63,6 @@ loop-place-preserved g c =
       short = subst (λ (xs : List ℕ). (k : ℕ) → k < length xs → get_or xs k 0 ≤ 4 * k) (sym items) (short_push sizes m s inv.each inv.short fits);
       are = subst (λ (xs : List ℕ). AreSizes (g.E.Array.sees a).child (g.E.Array.sees a).width p.order.items xs) (sym items) are;
     }
+
+pub width-requires : goal.width-requires
+width-requires g c = grind (arith, elements)

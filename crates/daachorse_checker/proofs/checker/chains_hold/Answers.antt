@@ -1,6 +1,7 @@
 -- The chains are right where the root's ends behind its own outputs and that of each other place is right, and one wrong chain is enough for a no.
 use Rattle.std.proofs.Common.{◌≡◌, ℕ, ◌<◌, false, length, refl, sym, ap, ◌∙◌, subst, arith, get_or}
 use Rattle.std.proofs.lemmas.List.{get_or_read}
+use Rattle.std.proofs.lemmas.Grind.{elements}
 use Rattle.std.proofs.lemmas.Bool.{false≢true}
 use borrow.Author.Count.{below_more}
 use Rattle.daachorse_array.specs.Machines.{own_from}
@@ -41,11 +42,7 @@ returns g c = (
 )
 
 pub chain_holds-requires : goal.chain_holds-requires
-chain_holds-requires g c =
-    let lt : c.loop-place.place < length c.args.places.now.order.items = omega (arith, c.loop-place-test.true, c.len-place-end.ensures, c.args.places.now.order.ok.0) in
-    let at = get_or_read c.args.places.now.order.items c.loop-place.place c.index-element.result.now lt c.index-element.ensures 0 in
-    let element : c.index-element.result.now < (g.E.Array.sees c.args.array.now).count = omega (arith, at, c.requires.places.places.inside c.loop-place.place lt, c.requires.places.marks_each) in
-    assumption (element, c.requires)
+chain_holds-requires g c = grind (arith, elements)
 
 pub returns-then-not-chain_holds : goal.returns-then-not-chain_holds
 returns-then-not-chain_holds g c =

@@ -20,7 +20,7 @@ returns-then-len-num_states-clause-ok g c =
     let both = rw c.in-Some.is at c.in_ok-places.ensures.yes in (
       λ e. absurd (false≢true e),
       λ right. absurd (c.if-len-num_states.true
-      (omega (arith, c.len.ensures, same_count view.width (machine_of view c.args.outputs.now) c.requires.edges.tell both.1 both.0 c.args.num_states right.1))),
+          (omega (arith, c.len.ensures, same_count view.width (machine_of view c.args.outputs.now) c.requires.edges.tell both.1 both.0 c.args.num_states right.1))),
     )
 
 pub returns-then-not-chains_hold-clause-ok : goal.returns-then-not-chains_hold-clause-ok

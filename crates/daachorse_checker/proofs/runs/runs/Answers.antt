@@ -1,6 +1,7 @@
 -- The next output of a chain stands earlier, so its run is known: behind the outputs of one length the chain goes on where it does behind the next one, if that has this length too, and else at it.
-use Rattle.std.proofs.Common.{rules, ◌≡◌, ◌+◌, ◌++◌, ◌∷◌, [], length, sym, ap, ◌∙◌, subst}
+use Rattle.std.proofs.Common.{rules, ◌≡◌, ◌+◌, ◌++◌, ◌∷◌, [], length, sym, ap, ◌∙◌, subst, arith}
 use Rattle.std.proofs.lemmas.List.{length_push}
+use Rattle.std.proofs.lemmas.Grind.{common_steps}
 use Rattle.daachorse_core.specs.Outputs.{length_of, parent_of}
 use Rattle.daachorse_array.specs.Machines.{own_from}
 use Rattle.daachorse_checker.specs.Runs.{AreRuns}
@@ -22,3 +23,6 @@ loop-number-preserved g c =
       each = ap length items ∙ length_push old run ∙ ap (λ n. n + 1) c.loop-number.invariant.each;
       runs = subst (AreRuns outputs) (sym items) (runs_push outputs old run c.loop-number.number o c.loop-number.invariant.runs c.requires.fall c.loop-number.invariant.each c.output_at-output.ensures e);
     }
+
+pub rest_at-run-requires-clause-inside : goal.rest_at-run-requires-clause-inside
+rest_at-run-requires-clause-inside g c = grind (arith, common_steps)

@@ -45,9 +45,11 @@ returns-then-not-enter-clause-ok g c =
 pub returns-clause-ok : goal.returns-clause-ok
 returns-clause-ok g c =
     let t = c.args.self.now in
-    let k = c.loop-k in
-    (λ _. sound t.parents.items t.labels.items t.stops.items t.fails.items c.args.alphabet c.requires.trie c.requires.each (c.if-not-links_fall.ensures.0 refl)
-    (touring_end c.requires.trie c.requires.each k.invariant.touring (omega (arith, c.loop-k-test.false, c.len-count.ensures))), λ _. refl)
+    let k = c.loop-k in (
+      λ _. sound t.parents.items t.labels.items t.stops.items t.fails.items c.args.alphabet c.requires.trie c.requires.each (c.if-not-links_fall.ensures.0 refl)
+          (touring_end c.requires.trie c.requires.each k.invariant.touring (omega (arith, c.loop-k-test.false, c.len-count.ensures))),
+      λ _. refl,
+    )
 
 pub index-next-requires-in-loop-k : goal.index-next-requires-in-loop-k
 index-next-requires-in-loop-k g c =

@@ -1,5 +1,5 @@
 -- The chains of outputs of the elements at places.
-use Rattle.std.specs.Prelude.{◌≡◌, ◌≢◌, ℕ, ◌<◌, ◌==◌, Bool, true, false, cond, List, length, Option, slice_index, slice_index_or}
+use Rattle.std.specs.Prelude.{◌≡◌, ◌≢◌, ℕ, ◌<◌, ◌==◌, Bool, true, false, cond, List, length, slice_index, slice_index_or}
 use Rattle.daachorse_core.specs.declared.outputs.Output.{Output}
 use Rattle.daachorse_array.specs.Arrays.{ArrayView}
 use Rattle.daachorse_array.specs.Machines.{Machine, own_from}

@@ -1,5 +1,5 @@
 -- Each place so far has the size of its text, which is at most four bytes for each place before it, as its parent comes earlier.
-use Rattle.std.proofs.Common.{◌≡◌, ℕ, ◌*◌, ◌<◌, ◌≤◌, ◌-◌, length, get_or}
+use Rattle.std.proofs.Common.{◌≡◌, ℕ, ◌*◌, ◌<◌, ◌≤◌, length, get_or}
 use Rattle.daachorse_checker.specs.Sizes.{AreSizes}
 use Rattle.daachorse_checker.proofs.chains.sizes.Given as goal
 

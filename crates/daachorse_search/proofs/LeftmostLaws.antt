@@ -257,7 +257,7 @@ module _ {V : Type 0} {width : ℕ → ℕ} {view : AutomatonView V} {passes : L
             let many : 0 < length best.key = omega (arith, ap length e) in
             let N : List ℕ → Type 0 = λ x. NoneStarts view.content (length best.front) x in
             let resting = scanned opened later true done next now (best.front ++ best.key) cut
-                (λ bound short. omega (arith, was.most bound short, best.near bound short, times_one_more bound given, ap (λ n. bound * n) counted, length-append best.front best.key, many)) best.least best.most (λ over. absurd (let bad : true ≡ false = sym over ∙ on in cc)) in (
+            (λ bound short. omega (arith, was.most bound short, best.near bound short, times_one_more bound given, ap (λ n. bound * n) counted, length-append best.front best.key, many)) best.least best.most (λ over. absurd (let bad : true ≡ false = sym over ∙ on in cc)) in (
               record {
                 resting = resting;
                 left =

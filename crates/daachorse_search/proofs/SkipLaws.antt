@@ -34,9 +34,9 @@ pub no_place_skipped : {p q : List ℕ → Bool} {opened : Type 0} {read rest la
 no_place_skipped {later = later} places (inl none) fewer goes = nil_from_length later (omega (arith, fewer, ap length none))
 no_place_skipped {p} {q} {rest = rest} places (inr (open_now, none, nowhere)) fewer goes = goes none (nowhere_on p q rest places nowhere)
 
-pub no_place_on : (p q : List ℕ → Bool) (opened : Type 0) (read rest : List ℕ) → ((w : List ℕ) → q w ≡ p w) → HasNoPlace p opened read rest → HasNoPlace q opened read rest
-no_place_on p q opened read rest places (inl none) = inl none
-no_place_on p q opened read rest places (inr (open_now, none, nowhere)) = inr (open_now, none, nowhere_on p q rest places nowhere)
+pub no_place_on : {p q : List ℕ → Bool} {opened : Type 0} {read rest : List ℕ} → ((w : List ℕ) → q w ≡ p w) → HasNoPlace p opened read rest → HasNoPlace q opened read rest
+no_place_on places (inl none) = inl none
+no_place_on {p} {q} {rest = rest} places (inr (open_now, none, nowhere)) = inr (open_now, none, nowhere_on p q rest places nowhere)
 
 module _ {V A W : Type 0} (width : ℕ → ℕ) (view : StepView V A W) where
   -- what is left at the beginning

@@ -1,6 +1,6 @@
 //! Standard searches in a source. What the source needs is their only condition.
 
-ghost use Rattle.std.specs.Prelude.{◌≡◌, ◌+◌, ◌*◌, ℕ, [], length};
+ghost use Rattle.std.specs.Prelude.{◌≡◌, ◌+◌, ◌*◌, [], length};
 ghost use Rattle.std.specs.Iterator.{MakesProgress, count_map};
 ghost use Rattle.daachorse_haystack.specs.Readings.{MayReadAsRead};
 ghost use Rattle.daachorse_search.specs.Searches.{GivesFrom, SourceProgress};

@@ -1,11 +1,9 @@
 //! The searches for all matches, which may overlap, and for the longest at each end.
 
-ghost use Rattle.std.specs.Prelude.{◌≡◌, ◌≢◌, Some, None, length, ◌<◌, ◌≤◌, ◌^◌, ◌+◌, ◌*◌, ◌↔◌, ℕ, List, [], ◌∷◌, ◌++◌, IsTrue, count_by, map, take};
-ghost use Rattle.std.specs.Bool.{OnTrue};
+ghost use Rattle.std.specs.Prelude.{◌≡◌, ◌≢◌, Some, None, length, ◌<◌, ◌^◌, ◌↔◌, ℕ, List, [], IsTrue};
 ghost use Rattle.daachorse_model.specs.Matches.{no_suffix, overlapping};
 ghost use Rattle.daachorse_model.specs.Prefixes.{IsLong};
 ghost use Rattle.daachorse_model.specs.Units.{size};
-ghost use Rattle.daachorse_search.specs.Afresh.{GoesOnAfresh, shifted};
 ghost use Rattle.daachorse_haystack.specs.Filters.{IsSoundFor};
 ghost use Rattle.daachorse_search.specs.Views.{HasDepths, IsStandard};
 ghost use Rattle.daachorse_search.specs.Walks.{IsFresh, IsWalking};

@@ -1,6 +1,6 @@
 //! The loop of the searches in a source.
 
-ghost use Rattle.std.specs.Prelude.{◌≡◌, ℕ, IfSome, MatchOption};
+ghost use Rattle.std.specs.Prelude.{◌≡◌, IfSome, MatchOption};
 ghost use Rattle.std.specs.Iterator.{IsFinite};
 ghost use Rattle.daachorse_model.specs.Units.{size};
 ghost use Rattle.daachorse_haystack.specs.Readings.{unit_as_read};

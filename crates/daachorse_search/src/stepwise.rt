@@ -1,6 +1,6 @@
 //! Searches that read one unit at a time.
 
-ghost use Rattle.std.specs.Prelude.{◌≡◌, ◌≢◌, ◌↔◌, ◌+◌, ◌*◌, ◌≤◌, ◌<◌, ◌^◌, ℕ, Bool, List, [], ◌∷◌, ◌++◌, IfSome, IsSome, IsTrue, count_by, length, map};
+ghost use Rattle.std.specs.Prelude.{◌≡◌, ◌≢◌, ◌↔◌, ◌+◌, ◌*◌, ◌≤◌, ◌<◌, ℕ, [], ◌∷◌, ◌++◌, IfSome, IsSome, IsTrue, count_by, length, map};
 ghost use Rattle.std.specs.Bool.{OnTrue};
 ghost use Rattle.daachorse_model.specs.Units.{size};
 ghost use Rattle.daachorse_core.specs.Outputs.{number};
@@ -20,7 +20,7 @@ pub trait Stepwise<V: Copy>: Drop {
     /// The automaton that is walked through.
     type Automaton: Drop;
 
-    /// What a search sees of it.
+    /// What contracts see of it.
     ghost sees: { StepView V Self.Automaton Self };
 
     /// The position of the first output at offset 0.

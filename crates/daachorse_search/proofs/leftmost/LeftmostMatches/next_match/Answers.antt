@@ -63,7 +63,7 @@ record GaveKey (g : given.Over) (c : goal.After-give g) : Type 0 where
 gave_key : (g : given.Over) (c : goal.After-give g) → Begun g c.scans.self-inside c.skip_places-may_stop.new.filter c.skip_places-may_stop.new.rest c.args.self.now.left → GaveKey g c
 gave_key g c to =
     let next = gives_key to.resting c.scans.invariant.spans g.met.A.Unit.EdgeLabel.wide c.in-Best.ensures c.output-output.ensures.value c.left-in-Best.ensures c.to_match-best.ensures
-        (g.F.Filter.opened c.skip_places-may_stop.new.filter) c.if-found-gt0.true c.after-then-found-gt0.ensures c.if-self.false (ap (λ (x : SeenUnits). x.given) c.give.ensures) in
+    (g.F.Filter.opened c.skip_places-may_stop.new.filter) c.if-found-gt0.true c.after-then-found-gt0.ensures c.if-self.false (ap (λ (x : SeenUnits). x.given) c.give.ensures) in
     record { resting = next.0.resting; left = sym to.still ∙ next.0.left; behind = next.1 }
 
 pub invariant_of-self-then-found-gt0 : goal.invariant_of-self-then-found-gt0
@@ -91,7 +91,7 @@ record GaveEmpty (g : given.Over) (c : After-skip_unit-self-inside g) : Type 0 w
 gave_empty : (g : given.Over) (c : After-skip_unit-self-inside g) → Begun g c.scans.self-inside c.skip_places-may_stop.new.filter c.skip_places-may_stop.new.rest c.args.self.now.left → GaveEmpty g c
 gave_empty g c to =
     let next = gives_empty to.resting c.scans.invariant.spans g.met.A.Unit.EdgeLabel.wide c.in-Best.ensures c.output-output.ensures.value c.left-in-Best.ensures c.to_match-best.ensures
-        (g.F.Filter.opened c.skip_places-may_stop.new.filter) c.skip_unit-self-inside.result c.if-found-gt0.false c.skip_unit-self-inside.ensures in
+    (g.F.Filter.opened c.skip_places-may_stop.new.filter) c.skip_unit-self-inside.result c.if-found-gt0.false c.skip_unit-self-inside.ensures in
     record { resting = next.0.resting; left = sym to.still ∙ next.0.left; behind = next.1 }
 
 pub invariant_of-self-then-not-passed_over : goal.invariant_of-self-then-not-passed_over

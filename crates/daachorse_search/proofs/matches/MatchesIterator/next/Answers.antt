@@ -8,12 +8,12 @@ use Rattle.daachorse_model.specs.declared.Match.{Match}
 use Rattle.daachorse_model.specs.Units.{size}
 use Rattle.daachorse_search.specs.declared.matches.Matches.TheInside.{Inside}
 use Rattle.daachorse_search.specs.LeftmostSearches.{before_rest}
-use Rattle.daachorse_search.specs.Matches.{Progress, GaveMatch, GaveNone, GivesFirst, StandsAtEnd}
+use Rattle.daachorse_search.specs.Matches.{Progress, GaveMatch, GaveNone, StandsAtEnd}
 use Rattle.daachorse_search.specs.Skipping.{matches_behind, next_position, ComesTo, HasNoPlace, IsReading}
 use Rattle.daachorse_search.proofs.SkipLaws.{SkipsTo-places, no_place_on, reading-on, reading-gives, reading-ended, place_is}
 use Rattle.daachorse_search.proofs.matches.MatchesIterator.next.Given as given
 use Rattle.daachorse_search.proofs.matches.MatchesIterator.next.Goals as goal
-use Rattle.daachorse_search.proofs.matches.MatchesIterator.next.Goals.{in-Some, in-None+in_ok-position-in-None}
+use Rattle.daachorse_search.proofs.matches.MatchesIterator.next.Goals.{in-Some, in-None+in_ok-position-in-None, After-go_on, After-left}
 
 abbrev Ins : given.Over → Type 0
 Ins g = Inside g.row.V.Denot g.row.W.Denot g.row.H.Denot g.row.F.Denot g.row.W-Unit.Denot g.row.W-Automaton.Denot
@@ -26,7 +26,7 @@ standing g i position =
 
 abbrev left_at : (g : given.Over) → Ins g → ℕ → List (Match g.row.V.Denot)
 left_at g i position =
-    let view = g.W.Stepwise.sees in let F = g.F.Filter in let rest = g.H.Haystack.rest in
+    let view = g.W.Stepwise.sees in let rest = g.H.Haystack.rest in
     matches_behind g.W.Unit.EdgeLabel.width view (rest i.whole.value) i.walk (rest i.rest) position
 
 -- a call that began as `was` came to the output at the position
@@ -60,13 +60,10 @@ went_on : (g : given.Over) (was : Ins g) (known : Option NonZeroU32) (walk : g.r
     → IfSome known (λ _. filter ≡ was.filter)
     → Came g was (record was { walk = walk; taken = taken; rest = later; filter = filter; first = first }) position
 went_on g was None walk later taken position filter first stands pending is none places reads output idle kept =
-    let view = g.W.Stepwise.sees in let F = g.F.Filter in let rest = g.H.Haystack.rest in let begun = F.passes was.first_filter.value in
+    let view = g.W.Stepwise.sees in
     let zero : next_position was.first was.output ≡ 0 = next_is was.first was.output None is ∙ ap number pending in
-    let R : ℕ → Type 0 = λ n. IsReading g.W.Unit.EdgeLabel.width view begun (F.opened was.first_filter.value) (rest was.whole.value) was.size (F.opened was.filter) was.walk (rest was.rest) n was.taken in
-    let on = reading-on (subst R zero stands.1) (g.met.W.Stepwise.no_output was.walk).1
-    (SkipsTo-places stands.0 reads) output
-    (λ nowhere. idle (no_place_on begun (F.passes was.filter) (F.opened was.filter) (view.read was.walk) (rest was.rest) stands.0 nowhere)) in
-    record { filter = refl; whole = refl; seen = refl; automaton = reads.same; none = none; stands = (λ w. places w ∙ stands.0 w, on.0); left = ap (left_at g was) zero ∙ on.1 }
+    let on = reading-on stands.1 (ap (view.given_from was.walk) zero ∙ (g.met.W.Stepwise.no_output was.walk).1) (SkipsTo-places stands.0 reads) output (λ nowhere. idle (no_place_on stands.0 nowhere)) in
+    record { filter = refl; whole = refl; seen = refl; automaton = reads.same; none = none; stands = (λ w. places w ∙ stands.0 w, on.0); left = on.1 }
 went_on g was (Some p) walk later taken position filter first stands pending is none places reads output idle kept =
     let view = g.W.Stepwise.sees in let F = g.F.Filter in let rest = g.H.Haystack.rest in let begun = F.passes was.first_filter.value in
     let here : next_position was.first was.output ≡ position = next_is was.first was.output (Some p) is ∙ sym reads.0 in
@@ -107,126 +104,89 @@ came g c =
           (went_on g was was.first to.walk to.rest to.taken found.position.value to.filter to.first (c.self.invariant.0, c.self.invariant.1) w.in-None.is refl found.ensures.first found.ensures.passes found.ensures.comes found.ensures.output found.ensures.idle found.ensures.kept) w.position-is w.self-inside-is
     ]
 
-came_on : (g : given.Over) (c : goal.After-give g) → Came g c.self.inside c.match-self.self-inside c.match-self.position.value
-came_on g c =
-    let was = c.self.inside in let now = c.match-self.self-inside in let p = c.match-self.position in
-    elim c.match-self.branch [
-      | in-Some w ↦ pending_came g was now p w.in-Some.position (c.self.invariant.0, c.self.invariant.1) (none_apart (g.W.Stepwise.sees.everywhere was.walk) was.first was.output w.in-Some.position c.self.invariant.2 w.in-Some.is) w.in-Some.is w.position-is w.self-inside-is
-      | in-None+in_ok-position-in-None w ↦
-          let to = w.go_on.new in let found = w.in_ok-position-in-None in
-          same_came g was (record was { walk = to.walk; taken = to.taken; rest = to.rest; filter = to.filter; first = to.first }) now p found.position
-          (went_on g was was.first to.walk to.rest to.taken found.position.value to.filter to.first (c.self.invariant.0, c.self.invariant.1) w.in-None.is refl found.ensures.first found.ensures.passes found.ensures.comes found.ensures.output found.ensures.idle found.ensures.kept) w.position-is w.self-inside-is
-    ]
-
 pub overflow_sub-place : goal.overflow_sub-place
-overflow_sub-place g c =
-    let view = g.W.Stepwise.sees in let F = g.F.Filter in let rest = g.H.Haystack.rest in let now = c.match-self.self-inside in
-    omega (arith, place_is (came g c).stands.1, c.left.ensures)
+overflow_sub-place g c = omega (arith, place_is (came g c).stands.1, c.left.ensures)
 
 pub give-found-requires-clause-here : goal.give-found-requires-clause-here
-give-found-requires-clause-here g c =
-    let view = g.W.Stepwise.sees in let F = g.F.Filter in let rest = g.H.Haystack.rest in let now = c.match-self.self-inside in
-    omega (arith, place_is (came g c).stands.1, c.left.ensures)
+give-found-requires-clause-here g c = omega (arith, place_is (came g c).stands.1, c.left.ensures)
 
 pub give-found-requires-clause-output : goal.give-found-requires-clause-output
 give-found-requires-clause-output g c = (came g c).stands.1.output
 
+-- what callers see of a search
+abbrev seen_of : (g : given.Over) → Ins g → Progress g.row.V.Denot g.row.W-Automaton.Denot g.row.F.Denot
+seen_of g i =
+    let view = g.W.Stepwise.sees in let rest = g.H.Haystack.rest in
+    record {
+      automaton = view.automaton i.walk;
+      filter = i.first_filter.value;
+      haystack = rest i.whole.value;
+      left = left_at g i (next_position i.first i.output);
+      passed = before_rest (rest i.whole.value) (rest i.rest);
+      since = view.read i.walk;
+      turns = i.taken + view.turns i.walk;
+      given = i.seen.given;
+    }
+
+-- where nothing is pending, and the search went on
+abbrev ahead : (g : given.Over) → After-go_on g → Ins g
+ahead g c = let to = c.go_on.new in record (c.self.inside) { walk = to.walk; taken = to.taken; rest = to.rest; filter = to.filter; first = to.first }
+
+gone : (g : given.Over) (c : After-go_on g) → Came g c.self.inside (ahead g c) (number c.go_on.result) × (next_position c.go_on.new.first c.self.inside.output ≡ 0)
+gone g c =
+    let was = c.self.inside in let to = c.go_on.new in let found = c.go_on.ensures in (
+      went_on g was was.first to.walk to.rest to.taken (number c.go_on.result) to.filter to.first (c.self.invariant.0, c.self.invariant.1) c.in-None.is refl found.first found.passes found.comes found.output found.idle found.kept,
+      next_is to.first was.output None found.first ∙ ap number c.in-None.is,
+    )
+
 -- the haystack ended: nothing is pending
 pub invariant_of-self : goal.invariant_of-self
 invariant_of-self g c =
-    let was = c.self.inside in let to = c.go_on.new in let found = c.go_on.ensures in
-    let after : Ins g = record was { walk = to.walk; taken = to.taken; rest = to.rest; filter = to.filter; first = to.first } in
-    let P : ℕ → Type 0 = λ n. standing g after n in
-    let gone : Came g was after (number c.go_on.result) = went_on g was was.first to.walk to.rest to.taken (number c.go_on.result) to.filter to.first (c.self.invariant.0, c.self.invariant.1) c.in-None.is refl found.first found.passes found.comes found.output found.idle found.kept in
-    let stands : standing g after (next_position to.first was.output) = subst P (ap number c.in_err-position-in-None.was ∙ sym (ap number c.in-None.is) ∙ sym (next_is to.first was.output None found.first)) gone.stands in
-    (stands.0, stands.1, apart_none to.first (g.W.Stepwise.sees.everywhere to.walk × (was.output ≡ None)) found.first)
+    let at = (goal.at.invariant_of-self g c).After-go_on in let to = gone g at in
+    let stands : standing g (ahead g at) (next_position c.go_on.new.first c.self.inside.output) = subst (standing g (ahead g at)) (ap number c.in_err-position-in-None.was ∙ sym to.1) to.0.stands in
+    (stands.0, stands.1, apart_none c.go_on.new.first (g.W.Stepwise.sees.everywhere c.go_on.new.walk × (c.self.inside.output ≡ None)) c.go_on.ensures.first)
 
-pub returns-in_err-position-in-None-clause-steps : goal.returns-in_err-position-in-None-clause-steps
-returns-in_err-position-in-None-clause-steps g c =
-    let view = g.W.Stepwise.sees in let F = g.F.Filter in let rest = g.H.Haystack.rest in
-    let was = c.self.inside in let to = c.go_on.new in let found = c.go_on.ensures in
-    let after : Ins g = record was { walk = to.walk; taken = to.taken; rest = to.rest; filter = to.filter; first = to.first } in
-    let C : ℕ → Type 0 = λ n. Came g was after n in
-    let gone : Came g was after 0 = subst C (ap number c.in_err-position-in-None.was) (went_on g was was.first to.walk to.rest to.taken (number c.go_on.result) to.filter to.first (c.self.invariant.0, c.self.invariant.1) c.in-None.is refl found.first found.passes found.comes found.output found.idle found.kept) in
-    let E : Option NonZeroU32 → Type 0 = λ r. IfNone r (rest to.rest ≡ []) in
-    let over : rest to.rest ≡ [] = subst E c.in_err-position-in-None.was found.ended in
-    let ended = reading-ended gone.stands.1 (g.met.W.Stepwise.no_output to.walk).1 over in
-    let t : Progress g.row.V.Denot g.row.W-Automaton.Denot g.row.F.Denot = record {
-      automaton = view.automaton to.walk;
-      filter = was.first_filter.value;
-      haystack = rest was.whole.value;
-      left = left_at g after (next_position to.first was.output);
-      passed = before_rest (rest was.whole.value) (rest to.rest);
-      since = view.read to.walk;
-      turns = to.taken + view.turns to.walk;
-      given = was.seen.given;
-    } in
-    let P : Progress g.row.V.Denot g.row.W-Automaton.Denot g.row.F.Denot → Type 0 = λ s. GaveNone (StandsAtEnd {V = g.row.V.Denot} g.W.Unit.EdgeLabel.width) s t in
-    let gone_none : GaveNone (StandsAtEnd {V = g.row.V.Denot} g.W.Unit.EdgeLabel.width) c.args.self.now t = subst P c.self.view_is (record {
-      automaton = gone.automaton;
-      filter = refl;
-      haystack = refl;
-      none = gone.left ∙ ended.0;
-      still_none = ap (left_at g after) (next_is to.first was.output None found.first ∙ ap number c.in-None.is) ∙ ended.0;
-      counted = refl;
-      all = ended.1;
-    }) in
-    let R : Option (Match g.row.V.Denot) → Type 0 = λ r. GivesFirst (StandsAtEnd {V = g.row.V.Denot} g.W.Unit.EdgeLabel.width) c.args.self.now r t in
-    subst R (sym c.from_residual.ensures) gone_none
-
-pub returns-in_err-position-in-None-clause-goes : goal.returns-in_err-position-in-None-clause-goes
-returns-in_err-position-in-None-clause-goes g c = rw c.from_residual.ensures (record { on = λ _. tt; keeps = tt; rests = λ _. tt })
+pub returns-in_err-position-in-None : goal.returns-in_err-position-in-None
+returns-in_err-position-in-None g c =
+    let rest = g.H.Haystack.rest in
+    let at = (goal.at.returns-in_err-position-in-None g c).After-go_on in let after = ahead g at in let come = gone g at in
+    let here : Came g c.self.inside after 0 = subst (Came g c.self.inside after) (ap number c.in_err-position-in-None.was) come.0 in
+    let E : Option NonZeroU32 → Type 0 = λ r. IfNone r (rest after.rest ≡ []) in
+    let ended = reading-ended here.stands.1 (g.met.W.Stepwise.no_output after.walk).1
+    (subst E c.in_err-position-in-None.was c.go_on.ensures.ended) in
+    let P : Progress g.row.V.Denot g.row.W-Automaton.Denot g.row.F.Denot → Type 0 = λ s. GaveNone (StandsAtEnd {V = g.row.V.Denot} g.W.Unit.EdgeLabel.width) s (seen_of g after) in
+    let none : P c.args.self.now = subst P c.self.view_is (record { automaton = here.automaton; filter = refl; haystack = refl; none = here.left ∙ ended.0; still_none = ap (left_at g after) come.1 ∙ ended.0; counted = refl; all = ended.1 }) in
+    rw c.from_residual.ensures (record { steps = none; goes = record { on = λ _. tt; keeps = tt; rests = λ _. tt } })
 
 -- the search after the match was given
 abbrev given_on : (g : given.Over) (c : goal.After-give g) → Ins g
 given_on g c = record c.match-self.self-inside { output = c.give-found.result.1; seen = c.give.new.self }
 
-gives : (g : given.Over) (c : goal.After-give g) → standing g (given_on g c) (number c.give-found.result.1)
+gives : (g : given.Over) (c : goal.After-give g) → standing g c.match-self.self-inside c.match-self.position.value → standing g (given_on g c) (number c.give-found.result.1)
     × (left_at g c.match-self.self-inside c.match-self.position.value ≡ c.give-found.result.0 ∷ left_at g (given_on g c) (number c.give-found.result.1))
     × (c.give-found.result.0.end ≡ size g.W.Unit.EdgeLabel.width (before_rest (g.H.Haystack.rest c.match-self.self-inside.whole.value) (g.H.Haystack.rest c.match-self.self-inside.rest)))
-gives g c =
-    let view = g.W.Stepwise.sees in let F = g.F.Filter in let rest = g.H.Haystack.rest in let now = c.match-self.self-inside in let found = c.give-found in
-    let stands = (came_on g c).stands in
+gives g c stands =
+    let found = c.give-found in
     let next = reading-gives stands.1
     (omega (arith, place_is stands.1, c.left.ensures)) found.ensures.given found.ensures.ends found.ensures.place in
     ((stands.0, next.0), next.1, next.2)
 
 pub invariant_of-self-2 : goal.invariant_of-self-2
 invariant_of-self-2 g c =
-    let now = given_on g c in let none = (came_on g c).none in
-    let stands : standing g now (next_position now.first now.output) = subst (standing g now) (sym (next_is now.first now.output None none)) (gives g c).0 in
-    (stands.0, stands.1, apart_none now.first (g.W.Stepwise.sees.everywhere now.walk × (now.output ≡ None)) none)
+    let now = given_on g c in let to = came g (goal.at.invariant_of-self-2 g c).After-left in
+    let stands : standing g now (next_position now.first now.output) = subst (standing g now) (sym (next_is now.first now.output None to.none)) (gives g c to.stands).0 in
+    (stands.0, stands.1, apart_none now.first (g.W.Stepwise.sees.everywhere now.walk × (now.output ≡ None)) to.none)
 
--- what callers see then
-abbrev seen_on : (g : given.Over) (c : goal.After-give g) → Progress g.row.V.Denot g.row.W-Automaton.Denot g.row.F.Denot
-seen_on g c =
-    let view = g.W.Stepwise.sees in let rest = g.H.Haystack.rest in let now = c.match-self.self-inside in
-    record {
-      automaton = view.automaton now.walk;
-      filter = now.first_filter.value;
-      haystack = rest now.whole.value;
-      left = left_at g (given_on g c) (next_position now.first c.give-found.result.1);
-      passed = before_rest (rest now.whole.value) (rest now.rest);
-      since = view.read now.walk;
-      turns = now.taken + view.turns now.walk;
-      given = c.give.new.self.given;
-    }
-
-gave : (g : given.Over) (c : goal.After-give g) → GaveMatch (StandsAtEnd {V = g.row.V.Denot} g.W.Unit.EdgeLabel.width) c.args.self.now c.give-found.result.0 (seen_on g c)
-gave g c =
-    let rest = g.H.Haystack.rest in let to = came_on g c in let next = gives g c in
-    let P : Progress g.row.V.Denot g.row.W-Automaton.Denot g.row.F.Denot → Type 0 = λ s. GaveMatch (StandsAtEnd {V = g.row.V.Denot} g.W.Unit.EdgeLabel.width) s c.give-found.result.0 (seen_on g c) in
-    subst P c.self.view_is (record {
+pub returns : goal.returns
+returns g c =
+    let rest = g.H.Haystack.rest in let to = came g (goal.at.returns g c).After-left in let next = gives g c to.stands in
+    let P : Progress g.row.V.Denot g.row.W-Automaton.Denot g.row.F.Denot → Type 0 = λ s. GaveMatch (StandsAtEnd {V = g.row.V.Denot} g.W.Unit.EdgeLabel.width) s c.give-found.result.0 (seen_of g (given_on g c)) in
+    let gave : P c.args.self.now = subst P c.self.view_is (record {
       automaton = to.automaton;
       filter = ap (λ x. x.value) to.filter;
       haystack = ap (λ x. rest x.value) to.whole;
       first = to.left ∙ next.1 ∙ ap (λ n. c.give-found.result.0 ∷ left_at g (given_on g c) n) (sym (next_is c.match-self.self-inside.first c.give-found.result.1 None to.none));
       counted = ap (λ (x : SeenUnits). x.given) c.give.ensures ∙ ap (λ (x : SeenUnits). x.given + 1) to.seen;
       behind = next.2;
-    })
-
-pub returns-clause-steps : goal.returns-clause-steps
-returns-clause-steps g c = gave g c
-
-pub returns-clause-goes : goal.returns-clause-goes
-returns-clause-goes g c = record { on = λ _. (tt, tt, omega (arith, ap length (gave g c).first)); keeps = tt; rests = λ _. tt }
+    }) in
+    record { steps = gave; goes = record { on = λ _. (tt, tt, omega (arith, ap length gave.first)); keeps = tt; rests = λ _. tt } }

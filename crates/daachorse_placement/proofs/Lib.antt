@@ -1,3 +1,4 @@
+pub mod Failures
 pub mod FlagCounts
 pub mod FreeListLaws
 pub mod PlaceStart

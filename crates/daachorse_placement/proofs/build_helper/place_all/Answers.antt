@@ -1,7 +1,6 @@
 -- The group at hand is one that may be placed, and with it one group more is.
 use Rattle.std.specs.Prelude.{IfErr}
 use Rattle.std.proofs.Common.{rules, Err, ◌≤◌, ◌*◌, ◌^◌, ◌≡◌, ◌<◌, ℕ, List, length, sym, ◌∙◌, subst, arith, ap, set, ◌+◌, ◌||◌}
-use Rattle.std.proofs.lemmas.Result.{IfOk-from_err}
 use Rattle.std.proofs.lemmas.Grind.{common_steps}
 use Rattle.daachorse_placement.specs.FreeLists.{element_count, HasPlaced, IsFull, IsMapOf, layout_of}
 use Rattle.daachorse_placement.specs.Placement.{IsPlaceRefusal, AreApart, AreGroups, AreIds, FitInBlock, IsPlaced, children_of, is_light, group_parent}
@@ -74,28 +73,21 @@ returns-clause-full g c = c.loop-group.invariant.full
 pub returns-clause-block : goal.returns-clause-block
 returns-clause-block g c = c.loop-group.invariant.block
 
-pub returns-in_err-base : goal.returns-in_err-base
-returns-in_err-base g c = record {
-  err =
-      let a = c.loop-group.elements in
-      let w = c.weigh.new.self in
-      let n = c.args.elements.now.block_len in
-      let m = length c.args.groups.now in
-      let inv = c.loop-group.invariant in
-      let is_weighed = c.weigh.ensures.windowed in
-      let block : w.block_len ≡ n = block_kept a w (a.windowed || is_light c.group-item.result) is_weighed ∙ inv.block in
-      let count : element_count w ≡ a.num_blocks * n = ap (λ v. element_count v) is_weighed ∙ (inv.whole.blocks ∙ ap (λ k. a.num_blocks * k) inv.block) in
-      let few : a.num_blocks ≤ m = let f = inv.placed.few in omega arith in
-      let passed : 2 ^ 32 ≤ element_count w + w.block_len → 2 ^ 32 ≤ (m + 1) * n = λ h. refusal a.num_blocks m n few (omega (arith, h, block, count)) in
-      let is_err : c.from_residual.result ≡ Err c.in_err-base.field-0.0 = search rules in
-      subst (λ r. IfErr r (IsPlaceRefusal (2 ^ 32 ≤ (m + 1) * n))) (sym is_err)
-      (refusal_under (2 ^ 32 ≤ element_count w + w.block_len) (2 ^ 32 ≤ (m + 1) * n) c.in_err-base.field-0.0 passed c.in_err-base.ensures.err);
-  whole = IfOk-from_err c.from_residual.result _ c.from_residual.ensures.0;
-  full = IfOk-from_err c.from_residual.result _ c.from_residual.ensures.0;
-  block = IfOk-from_err c.from_residual.result _ c.from_residual.ensures.0;
-  placed = IfOk-from_err c.from_residual.result _ c.from_residual.ensures.0;
-  windowed = IfOk-from_err c.from_residual.result _ c.from_residual.ensures.0;
-}
+pub returns-in_err-base-clause-err : goal.returns-in_err-base-clause-err
+returns-in_err-base-clause-err g c =
+    let a = c.loop-group.elements in
+    let w = c.weigh.new.self in
+    let n = c.args.elements.now.block_len in
+    let m = length c.args.groups.now in
+    let inv = c.loop-group.invariant in
+    let is_weighed = c.weigh.ensures.windowed in
+    let block : w.block_len ≡ n = block_kept a w (a.windowed || is_light c.group-item.result) is_weighed ∙ inv.block in
+    let count : element_count w ≡ a.num_blocks * n = ap (λ v. element_count v) is_weighed ∙ (inv.whole.blocks ∙ ap (λ k. a.num_blocks * k) inv.block) in
+    let few : a.num_blocks ≤ m = let f = inv.placed.few in omega arith in
+    let passed : 2 ^ 32 ≤ element_count w + w.block_len → 2 ^ 32 ≤ (m + 1) * n = λ h. refusal a.num_blocks m n few (omega (arith, h, block, count)) in
+    let is_err : c.from_residual.result ≡ Err c.in_err-base.field-0.0 = search rules in
+    subst (λ r. IfErr r (IsPlaceRefusal (2 ^ 32 ≤ (m + 1) * n))) (sym is_err)
+    (refusal_under (2 ^ 32 ≤ element_count w + w.block_len) (2 ^ 32 ≤ (m + 1) * n) c.in_err-base.field-0.0 passed c.in_err-base.ensures.err)
 
 pub returns-clause-placed : goal.returns-clause-placed
 returns-clause-placed g c = grind (arith, common_steps)

@@ -1,6 +1,5 @@
 -- One block and the two lists as they are filled: no group is placed yet.
 use Rattle.std.proofs.Common.{◌≡◌, ◌*◌, ℕ, List, ap, sym, ◌∙◌, subst, arith, replicate, rules, set}
-use Rattle.std.proofs.lemmas.Result.{IfOk-from_err}
 use Rattle.std.proofs.lemmas.Grind.{common_steps}
 use Rattle.daachorse_placement.specs.FreeLists.{layout_of}
 use Rattle.daachorse_placement.specs.Placement.{IsPlaced}
@@ -33,54 +32,6 @@ pub returns-clause-full : goal.returns-clause-full
 returns-clause-full g c = λ q all.
     let e = c.place_all.new.elements in
     none-vacant e.used_base.items e.used_index.items (q * e.block_len) e.block_len (c.in_ok-place_all.ensures.full q) all
-
-pub returns-in_err-elements-clause-placed : goal.returns-in_err-elements-clause-placed
-returns-in_err-elements-clause-placed g c = IfOk-from_err c.from_residual.result _ c.from_residual.ensures.0
-
-pub returns-in_err-elements-clause-sizes : goal.returns-in_err-elements-clause-sizes
-returns-in_err-elements-clause-sizes g c = IfOk-from_err c.from_residual.result _ c.from_residual.ensures.0
-
-pub returns-in_err-elements-clause-windowed : goal.returns-in_err-elements-clause-windowed
-returns-in_err-elements-clause-windowed g c = IfOk-from_err c.from_residual.result _ c.from_residual.ensures.0
-
-pub returns-in_err-elements-clause-full : goal.returns-in_err-elements-clause-full
-returns-in_err-elements-clause-full g c = IfOk-from_err c.from_residual.result _ c.from_residual.ensures.0
-
-pub returns-in_err-idx_map-clause-placed : goal.returns-in_err-idx_map-clause-placed
-returns-in_err-idx_map-clause-placed g c = IfOk-from_err c.from_residual-in_err-idx_map.result _ c.from_residual-in_err-idx_map.ensures.0
-
-pub returns-in_err-idx_map-clause-sizes : goal.returns-in_err-idx_map-clause-sizes
-returns-in_err-idx_map-clause-sizes g c = IfOk-from_err c.from_residual-in_err-idx_map.result _ c.from_residual-in_err-idx_map.ensures.0
-
-pub returns-in_err-idx_map-clause-windowed : goal.returns-in_err-idx_map-clause-windowed
-returns-in_err-idx_map-clause-windowed g c = IfOk-from_err c.from_residual-in_err-idx_map.result _ c.from_residual-in_err-idx_map.ensures.0
-
-pub returns-in_err-idx_map-clause-full : goal.returns-in_err-idx_map-clause-full
-returns-in_err-idx_map-clause-full g c = IfOk-from_err c.from_residual-in_err-idx_map.result _ c.from_residual-in_err-idx_map.ensures.0
-
-pub returns-in_err-bases-clause-placed : goal.returns-in_err-bases-clause-placed
-returns-in_err-bases-clause-placed g c = IfOk-from_err c.from_residual-in_err-bases.result _ c.from_residual-in_err-bases.ensures.0
-
-pub returns-in_err-bases-clause-sizes : goal.returns-in_err-bases-clause-sizes
-returns-in_err-bases-clause-sizes g c = IfOk-from_err c.from_residual-in_err-bases.result _ c.from_residual-in_err-bases.ensures.0
-
-pub returns-in_err-bases-clause-windowed : goal.returns-in_err-bases-clause-windowed
-returns-in_err-bases-clause-windowed g c = IfOk-from_err c.from_residual-in_err-bases.result _ c.from_residual-in_err-bases.ensures.0
-
-pub returns-in_err-bases-clause-full : goal.returns-in_err-bases-clause-full
-returns-in_err-bases-clause-full g c = IfOk-from_err c.from_residual-in_err-bases.result _ c.from_residual-in_err-bases.ensures.0
-
-pub returns-in_err-place_all-clause-placed : goal.returns-in_err-place_all-clause-placed
-returns-in_err-place_all-clause-placed g c = IfOk-from_err c.from_residual-in_err-place_all.result _ c.from_residual-in_err-place_all.ensures.0
-
-pub returns-in_err-place_all-clause-sizes : goal.returns-in_err-place_all-clause-sizes
-returns-in_err-place_all-clause-sizes g c = IfOk-from_err c.from_residual-in_err-place_all.result _ c.from_residual-in_err-place_all.ensures.0
-
-pub returns-in_err-place_all-clause-windowed : goal.returns-in_err-place_all-clause-windowed
-returns-in_err-place_all-clause-windowed g c = IfOk-from_err c.from_residual-in_err-place_all.result _ c.from_residual-in_err-place_all.ensures.0
-
-pub returns-in_err-place_all-clause-full : goal.returns-in_err-place_all-clause-full
-returns-in_err-place_all-clause-full g c = IfOk-from_err c.from_residual-in_err-place_all.result _ c.from_residual-in_err-place_all.ensures.0
 
 pub returns-clause-placed : goal.returns-clause-placed
 returns-clause-placed g c = grind (arith, common_steps)

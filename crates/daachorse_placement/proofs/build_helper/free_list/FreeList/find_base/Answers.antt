@@ -1,6 +1,5 @@
 -- The first element of a new block has a base for any children.
 use Rattle.std.proofs.Common.{ℕ, bit_xor, sym, subst}
-use Rattle.std.proofs.lemmas.Result.{IfOk-from_err}
 use Rattle.daachorse_placement.specs.FreeLists.{HasFlagsOf, IsPlaceFor}
 use Rattle.daachorse_placement.specs.Placement.{FitInBlock, label_of}
 use Rattle.daachorse_placement.proofs.FreeListLaws.{fresh_place}
@@ -12,15 +11,3 @@ returns-clause-found g c =
     subst (λ (m : ℕ). IsPlaceFor c.add_block.new.self c.args.children.now (bit_xor m (label_of c.args.children.now 0))) (sym c.num_elements-first.ensures)
     (fresh_place c.first_fit.new.self c.add_block.new.self c.args.children.now c.first_fit.ensures.whole (c.in_ok-add_block.ensures.ok) (c.in_ok-add_block.ensures.more) c.requires.some
     (subst (λ (m : ℕ). FitInBlock m c.args.children.now) kept.block c.requires.labels))
-
-pub returns-in_err-add_block-clause-whole : goal.returns-in_err-add_block-clause-whole
-returns-in_err-add_block-clause-whole g c = IfOk-from_err c.from_residual.result _ c.from_residual.ensures.0
-
-pub returns-in_err-add_block-clause-more : goal.returns-in_err-add_block-clause-more
-returns-in_err-add_block-clause-more g c = IfOk-from_err c.from_residual.result _ c.from_residual.ensures.0
-
-pub returns-in_err-add_block-clause-found : goal.returns-in_err-add_block-clause-found
-returns-in_err-add_block-clause-found g c = IfOk-from_err c.from_residual.result _ c.from_residual.ensures.0
-
-pub returns-in_err-add_block-clause-first : goal.returns-in_err-add_block-clause-first
-returns-in_err-add_block-clause-first g c = IfOk-from_err c.from_residual.result _ c.from_residual.ensures.0

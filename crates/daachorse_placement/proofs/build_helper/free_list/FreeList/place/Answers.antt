@@ -1,5 +1,4 @@
 -- The steps joined: a base found, the children taken, the base marked; no block gets more bases than elements.
-use Rattle.std.proofs.lemmas.Result.{IfOk-from_err}
 use Rattle.daachorse_placement.proofs.FreeListLaws.{has_placed, full_more}
 use Rattle.daachorse_placement.proofs.build_helper.free_list.FreeList.place.Goals as goal
 
@@ -12,15 +11,3 @@ pub returns-clause-placed : goal.returns-clause-placed
 returns-clause-placed g c =
     has_placed c.args.self.now c.find_base.new.self c.take.new.self c.use_base.new.self c.args.children.now _ c.args.tracked c.requires.whole c.in_ok-base.ensures.whole
     c.in_ok-base.ensures.more c.in_ok-base.ensures.found c.take.ensures.taken c.use_base.ensures.marked
-
-pub returns-in_err-base-clause-whole : goal.returns-in_err-base-clause-whole
-returns-in_err-base-clause-whole g c = IfOk-from_err c.from_residual.result _ c.from_residual.ensures.0
-
-pub returns-in_err-base-clause-full : goal.returns-in_err-base-clause-full
-returns-in_err-base-clause-full g c = IfOk-from_err c.from_residual.result _ c.from_residual.ensures.0
-
-pub returns-in_err-base-clause-placed : goal.returns-in_err-base-clause-placed
-returns-in_err-base-clause-placed g c = IfOk-from_err c.from_residual.result _ c.from_residual.ensures.0
-
-pub returns-in_err-base-clause-map : goal.returns-in_err-base-clause-map
-returns-in_err-base-clause-map g c = IfOk-from_err c.from_residual.result _ c.from_residual.ensures.0

@@ -1,3 +1,4 @@
+pub mod Failures
 pub mod Items
 pub mod Sizes
 pub mod Reading

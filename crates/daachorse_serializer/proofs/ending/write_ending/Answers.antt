@@ -1,20 +1,10 @@
 -- The forms of the parts stand behind one another; where memory is refused, what was written stays behind what stood before.
-use Rattle.std.proofs.lemmas.Result.{IfOk-from_err}
 use Rattle.std.proofs.Common.{arith}
 use Rattle.std.proofs.lemmas.Grind.{common_steps}
 use Rattle.daachorse_serializer.proofs.ending.write_ending.Goals as goal
 
-pub returns-in_err-serialize_to_vec-clause-written : goal.returns-in_err-serialize_to_vec-clause-written
-returns-in_err-serialize_to_vec-clause-written g c = IfOk-from_err c.from_residual.result _ c.from_residual.ensures.0
-
-pub returns-in_err-serialize_to_vec-2-clause-written : goal.returns-in_err-serialize_to_vec-2-clause-written
-returns-in_err-serialize_to_vec-2-clause-written g c = IfOk-from_err c.from_residual-in_err-serialize_to_vec-2.result _ c.from_residual-in_err-serialize_to_vec-2.ensures.0
-
 pub returns-in_err-serialize_to_vec-2-clause-kept : goal.returns-in_err-serialize_to_vec-2-clause-kept
 returns-in_err-serialize_to_vec-2-clause-kept g c = grind (arith, common_steps)
-
-pub returns-in_err-serialize_to_vec-3-clause-written : goal.returns-in_err-serialize_to_vec-3-clause-written
-returns-in_err-serialize_to_vec-3-clause-written g c = IfOk-from_err c.from_residual-in_err-serialize_to_vec-3.result _ c.from_residual-in_err-serialize_to_vec-3.ensures.0
 
 pub returns-in_err-serialize_to_vec-3-clause-kept : goal.returns-in_err-serialize_to_vec-3-clause-kept
 returns-in_err-serialize_to_vec-3-clause-kept g c = grind (arith, common_steps)

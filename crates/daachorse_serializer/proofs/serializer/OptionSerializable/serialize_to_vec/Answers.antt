@@ -1,14 +1,7 @@
 -- The first byte tells whether a value follows, and its form stands behind it.
-use Rattle.std.proofs.lemmas.Result.{IfOk-from_err}
 use Rattle.std.proofs.Common.{arith}
 use Rattle.std.proofs.lemmas.Grind.{common_steps}
 use Rattle.daachorse_serializer.proofs.serializer.OptionSerializable.serialize_to_vec.Goals as goal
-
-pub returns-in_err-push-in-None-clause-written : goal.returns-in_err-push-in-None-clause-written
-returns-in_err-push-in-None-clause-written g c = IfOk-from_err c.from_residual.result _ c.from_residual.ensures.0
-
-pub returns-in_err-push-in-Some-clause-written : goal.returns-in_err-push-in-Some-clause-written
-returns-in_err-push-in-Some-clause-written g c = IfOk-from_err c.from_residual-in_err-push-in-Some.result _ c.from_residual-in_err-push-in-Some.ensures.0
 
 pub returns-in_ok-push-in-Some-clause-written : goal.returns-in_ok-push-in-Some-clause-written
 returns-in_ok-push-in-Some-clause-written g c = grind (arith, common_steps)

@@ -1,11 +1,7 @@
 -- The number of the items stands before their forms.
-use Rattle.std.proofs.lemmas.Result.{IfOk-from_err}
 use Rattle.std.proofs.Common.{arith}
 use Rattle.std.proofs.lemmas.Grind.{common_steps}
 use Rattle.daachorse_serializer.proofs.serializer.VecSerializableVec.serialize_to_vec.Goals as goal
-
-pub returns-in_err-serialize_to_vec-clause-written : goal.returns-in_err-serialize_to_vec-clause-written
-returns-in_err-serialize_to_vec-clause-written g c = IfOk-from_err c.from_residual.result _ c.from_residual.ensures.0
 
 pub returns-clause-written : goal.returns-clause-written
 returns-clause-written g c = grind (arith, common_steps)

@@ -1,22 +1,19 @@
 -- Valid parts are a right machine, so that looks, chains and outputs are those of the dictionary that they hold.
-use Rattle.std.proofs.Common.{◌≡◌, ◌≢◌, Bool, true, false, cond, ℕ, ◌<◌, ◌/◌, ◌%◌, List, [], Option, Some, None, refl, sym, ap, ◌∙◌, subst, arith}
+use Rattle.std.proofs.Common.{◌≡◌, Bool, true, false, cond, ℕ, ◌<◌, ◌/◌, ◌%◌, List, Option, Some, None, refl, sym, ap, ◌∙◌, subst, arith}
 use Rattle.std.specs.Prelude.{slice_index_or, unwrap_or}
 use Rattle.std.specs.declared.num.NonZeroU32.{NonZeroU32}
 use Rattle.daachorse_core.specs.Looks.{LooksOnce}
-use Rattle.daachorse_core.specs.Outputs.{number}
 use Rattle.daachorse_core.specs.declared.turns.Look.{Look}
-use Rattle.daachorse_core.specs.declared.turns.Look.TheVariants.{Next, Fail}
-use Rattle.daachorse_model.specs.declared.MatchKind.TheVariants.{Standard}
+use Rattle.daachorse_core.specs.declared.turns.Look.TheVariants.{Next}
 use Rattle.daachorse_model.specs.Kinds.{is_leftmost}
 use Rattle.daachorse_model.specs.Units.{byte_width}
 use Rattle.daachorse_array.specs.Machines.{IsMachine}
 use Rattle.daachorse_array.proofs.ChildLaws.{child_at-inside}
-use Rattle.daachorse_array.proofs.MachineLaws.{LooksOnce-gives, Reached-inside, Reached-root, first-output, text-root, root-text, turn-next, turn-root, turn-dead, turn-link, standard-alive}
-use Rattle.daachorse_search.specs.Views.{HasFirst, SeesLook}
+use Rattle.daachorse_array.proofs.MachineLaws.{LooksOnce-gives, Reached-inside, turn-next, turn-root}
+use Rattle.daachorse_search.specs.Views.{SeesLook}
 use Rattle.daachorse_bytewise_states.specs.Elements.{output_in, vacant, vacant_left}
-use Rattle.daachorse_bytewise_states.specs.Parts.{Parts, base_of, check_of, child, content, count, fail_of, machine, output_of, word_at}
+use Rattle.daachorse_bytewise_states.specs.Parts.{Parts, base_of, check_of, child, content, count, machine, output_of, word_at}
 use Rattle.daachorse_bytewise_states.specs.Valid.{IsRootTable, IsState, IsValid, dead, sees, text}
-use Rattle.daachorse_bytewise_states.proofs.DeadLaws.{alive}
 
 below_256 : (b : Bool) (m n : ℕ) → cond b (m % 256) (n % 256) < 256
 below_256 true m n = omega arith
@@ -50,38 +47,8 @@ module _ {V : Type 0} (p : Parts V) where
   }
 
   module _ (valid : IsValid p) where
-    is_machine : IsMachine byte_width (machine p) (is_leftmost p.kind) (count p) 256
-    is_machine = valid_machine valid
-
     pub state_inside : (i : ℕ) → IsState p i → i < count p
-    state_inside i r = Reached-inside byte_width (machine p) (is_leftmost p.kind) (count p) 256 is_machine i r
-
-    pub root_state : IsState p 0
-    root_state = Reached-root byte_width (machine p) (is_leftmost p.kind) (count p) 256 is_machine
-
-    pub text_root : (i : ℕ) → i ≡ 0 → text p i ≡ []
-    text_root i e = text-root byte_width (machine p) (is_leftmost p.kind) (count p) 256 is_machine i e
-
-    pub root_text : (i : ℕ) → IsState p i → text p i ≡ [] → i ≡ 0
-    root_text i r e = root-text byte_width (machine p) (is_leftmost p.kind) (count p) 256 is_machine i r e
-
-    -- ---- a look at an element
-
-    pub look_child : (i c j : ℕ) → IsState p i → child p i c ≡ Some j → (o : Option NonZeroU32) → Gives i c (Next j o)
-    look_child i c j r e o = turn-next byte_width (machine p) (is_leftmost p.kind) (count p) 256 is_machine i c j r e o
-
-    pub look_root : (i c : ℕ) → IsState p i → child p i c ≡ None → i ≡ 0 → (o : Option NonZeroU32) → Gives i c (Next 0 o)
-    look_root i c r e root o = turn-root byte_width (machine p) (is_leftmost p.kind) (count p) 256 is_machine i c r e root o
-
-    pub look_dead : (i c : ℕ) → IsState p i → child p i c ≡ None → i ≢ 0 → fail_of p i ≡ 1 → (o : Option NonZeroU32) → Gives i c (Next 0 o)
-    look_dead i c r e other one o = turn-dead byte_width (machine p) (is_leftmost p.kind) (count p) 256 is_machine i c r e other one o
-
-    pub look_fail : (i c f : ℕ) → IsState p i → child p i c ≡ None → i ≢ 0 → fail_of p i ≡ f → f ≢ 1 → Gives i c (Fail f)
-    look_fail i c f r e other at live = turn-link byte_width (machine p) (is_leftmost p.kind) (count p) 256 is_machine i c f r e other at live
-
-    -- no link is dead where the searches are standard
-    pub link_alive : p.kind ≡ Standard → (i f : ℕ) → IsState p i → i ≢ 0 → fail_of p i ≡ f → f ≢ 1
-    link_alive standard i f r other at one = standard-alive byte_width (machine p) (is_leftmost p.kind) (count p) 256 is_machine i r other (alive p standard) (at ∙ one)
+    state_inside i r = Reached-inside _ _ _ _ _ (valid_machine valid) i r
 
     -- by the table of the root
     pub look_table : (root : List (ℕ × ℕ)) → IsRootTable (child p 0) (word_at p) 256 root → (i c j : ℕ) → IsState p i → c < 256 → i ≡ 0 → j ≡ (slice_index_or root c (0, 0)).0 → (o : Option NonZeroU32) → Gives i c (Next j o)
@@ -90,8 +57,8 @@ module _ {V : Type 0} (p : Parts V) where
         subst P (sym (is ∙ ap (λ e. e.0) (table.right c byte))) (go (child p 0 c) refl)
       where
         go : (x : Option ℕ) → child p 0 c ≡ x → Gives i c (Next (unwrap_or x 0) o)
-        go None e = look_root i c r (ap (λ x. child p x c) top ∙ e) top o
-        go (Some k) e = look_child i c k r (ap (λ x. child p x c) top ∙ e) o
+        go None e = turn-root _ _ _ _ _ (valid_machine valid) i c r (ap (λ x. child p x c) top ∙ e) top o
+        go (Some k) e = turn-next _ _ _ _ _ (valid_machine valid) i c k r (ap (λ x. child p x c) top ∙ e) o
 
     -- the table has the first output of each element that it has
     pub table_output : is_leftmost p.kind ≡ false → (root : List (ℕ × ℕ)) → IsRootTable (child p 0) (word_at p) 256 root → (c : ℕ) → c < 256 → output_of p (slice_index_or root c (0, 0)).0 ≡ (slice_index_or root c (0, 0)).1 / 256
@@ -100,9 +67,3 @@ module _ {V : Type 0} (p : Parts V) where
         let at = table.right c byte in
         let word : word_at p j ≡ (slice_index_or root c (0, 0)).1 = ap (λ e. word_at p e.0) at ∙ sym (ap (λ e. e.1) at) in
         ap (λ b. cond b (output_in (slice_index_or p.leftmost j vacant_left)) (output_in (slice_index_or p.standard j vacant))) standard ∙ ap (λ w. w / 256) word
-
-    -- ---- outputs
-
-    -- the first output of an element, as it was read off it
-    pub first_at : (i : ℕ) (o : Option NonZeroU32) → IsState p i → output_of p i ≡ number o → HasFirst byte_width (sees p) i o
-    first_at i o r at = first-output byte_width (machine p) (is_leftmost p.kind) (count p) 256 is_machine i o r at

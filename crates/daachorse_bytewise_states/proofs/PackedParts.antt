@@ -15,7 +15,7 @@ use Rattle.daachorse_bytewise_states.specs.Parts.{base_of, check_of, child, chil
 use Rattle.daachorse_bytewise_states.specs.Packing.{element_at, ArePacked}
 use Rattle.daachorse_patterns.specs.Settled.{trie_of}
 use Rattle.daachorse_patterns.proofs.Held.{held-IsCopy}
-use Rattle.daachorse_bytewise_states.proofs.PackedTrie.{element_at-child, element_at-states}
+use Rattle.daachorse_bytewise_states.proofs.PackedTrie.{element_at-child}
 
 -- ---- what the parts say of an element
 module _ {V : Type 0} (es : List (State ℕ)) (outputs : List (Output V)) (n : ℕ) where
@@ -47,21 +47,6 @@ module _ {V : Type 0} (es : List (State ℕ)) (outputs : List (Output V)) (n : �
   parts-fail LeftmostLongest i = get_or-map fail_in es i vacant
   parts-fail LeftmostFirst i = get_or-map fail_in es i vacant
 
-  pub parts-outputs : (kind : MatchKind) → (parts_of kind es outputs n).outputs ≡ outputs
-  parts-outputs Standard = refl
-  parts-outputs LeftmostLongest = refl
-  parts-outputs LeftmostFirst = refl
-
-  pub parts-kind : (kind : MatchKind) → (parts_of kind es outputs n).kind ≡ kind
-  parts-kind Standard = refl
-  parts-kind LeftmostLongest = refl
-  parts-kind LeftmostFirst = refl
-
-  pub parts-num_states : (kind : MatchKind) → (parts_of kind es outputs n).num_states ≡ n
-  parts-num_states Standard = refl
-  parts-num_states LeftmostLongest = refl
-  parts-num_states LeftmostFirst = refl
-
 -- elements of which a double array sees the same lead to the same
 same_child : (m n : ℕ) (base base' check check' : ℕ → ℕ) (i c : ℕ) → m ≡ n → ((i : ℕ) → base i ≡ base' i) → ((i : ℕ) → check i ≡ check' i) → child_by_check m base check i c ≡ child_by_check n base' check' i c
 same_child m n base base' check check' i c size bases checks =
@@ -78,5 +63,5 @@ module _ {A : Type 0} {gs : List (SiblingGroup A)} {l : Layout} {edges : List (L
   -- the parts are a copy of the trie
   pub packed-IsCopy : {V : Type 0} (kind : MatchKind) (outputs : List (Output V)) (n : ℕ) → IsCopy (trie_of edges fails positions) outputs (machine (parts_of kind es outputs n)) (λ t. get_or l.idx t 0)
   packed-IsCopy kind outputs n =
-      held-IsCopy p.settled fails positions (element_at-states p) (machine (parts_of kind es outputs n)) outputs (λ k. λ i. parts-fail es outputs n kind i k) (λ k. λ i. parts-output es outputs n kind i k) (parts-outputs es outputs n kind)
+      held-IsCopy p.settled fails positions p.held.states (machine (parts_of kind es outputs n)) outputs (λ k. λ i. parts-fail es outputs n kind i k) (λ k. λ i. parts-output es outputs n kind i k) refl
       (λ s c less alive. parts-child es outputs n kind (get_or l.idx s 0) c ∙ element_at-child p s c less alive)

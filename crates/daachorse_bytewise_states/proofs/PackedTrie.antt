@@ -10,13 +10,13 @@ use Rattle.daachorse_placement.specs.declared.build_helper.SiblingGroup.{Sibling
 use Rattle.daachorse_placement.specs.Layout.{AreAllSet, IsLeastUnused, Layout}
 use Rattle.daachorse_placement.specs.Placement.{children_of, group_parent, child_id}
 use Rattle.daachorse_build.specs.Tables.{child_in as edge_to}
-use Rattle.daachorse_patterns.specs.Settled.{AreSettled, HoldStates as HoldPlaced, IsVacantAt}
+use Rattle.daachorse_patterns.specs.Settled.{AreSettled, IsVacantAt}
 use Rattle.daachorse_patterns.proofs.Looks.{look, look_none, look_some}
 use Rattle.daachorse_patterns.proofs.Places.{base_from, base_inside, edge-at, place_from, state_from, xor_below}
 use Rattle.daachorse_bytewise_states.specs.declared.state.State.{State}
-use Rattle.daachorse_bytewise_states.specs.Elements.{base_in, check_in, fail_in, output_in}
+use Rattle.daachorse_bytewise_states.specs.Elements.{base_in, check_in}
 use Rattle.daachorse_bytewise_states.specs.Parts.{child_by_check}
-use Rattle.daachorse_bytewise_states.specs.Packing.{element_at, IsVacant, ArePacked}
+use Rattle.daachorse_bytewise_states.specs.Packing.{element_at, ArePacked}
 
 -- the least unused base of a block, or none is unused
 unused_or : (marks : List Bool) (start n : ℕ) → ((b : ℕ) × (start ≤ b) × (b < start + n) × (get_or marks b false ≡ false) × ((k : ℕ) → start ≤ k → k < b → get_or marks k false ≡ true)) ⊎ ((k : ℕ) → k < n → get_or marks (start + k) false ≡ true)
@@ -94,16 +94,13 @@ module _ {A : Type 0} {gs : List (SiblingGroup A)} {l : Layout} {edges : List (L
   vacant_apart s c less some below unit inside none check =
       elim (least_or_full l.marks (bit_xor (base_by s) c / 256)) [
         | inl u ↦ (
-            let back : bit_xor (bit_xor (base_by s) c) u.0 ≡ c = sym (is.check u.0 u.1) ∙ check in
+            let back : bit_xor (bit_xor (base_by s) c) u.0 ≡ c = sym (p.held.others (bit_xor (base_by s) c) inside none u.0 u.1) ∙ check in
             let base : base_by s ≡ u.0 = same_from u.0 back in
             let bad : true ≡ false = sym (base_used p.settled s less some) ∙ (ap (λ x. get_or l.marks x false) base ∙ u.1.free) in
             false≢true (sym bad))
         | inr all ↦ full all (cases_lt 1 (bit_xor (base_by s) c))
       ]
     where
-      is : IsVacant l (bit_xor (base_by s) c) (element_at es (bit_xor (base_by s) c))
-      is = p.held.others (bit_xor (base_by s) c) inside none
-
       same_from : (u : ℕ) → bit_xor (bit_xor (base_by s) c) u ≡ c → base_by s ≡ u
       same_from u e =
           let back : bit_xor (bit_xor (base_by s) c) (base_by s) ≡ c = ap (λ x. bit_xor x (base_by s)) (xor_comm (base_by s) c) ∙ xor_back c (base_by s) in
@@ -133,7 +130,7 @@ module _ {A : Type 0} {gs : List (SiblingGroup A)} {l : Layout} {edges : List (L
       by_edge r d e =
           let edge = edge-at p.settled r d t e in
           let from = base_from p.settled s less some in
-          let label : d ≡ c = sym ((p.held.states t inside other).check r d e) ∙ check in
+          let label : d ≡ c = sym (p.held.children r d t inside other e) ∙ check in
           let same : bit_xor (base_by r) c ≡ bit_xor (base_by s) c = ap (λ x. bit_xor (base_by r) x) (sym label) ∙ (sym edge.at ∙ at) in
           let bases : base_by r ≡ base_by s = xor_same_left c (base_by r) (base_by s) (xor_comm c (base_by r) ∙ (same ∙ xor_comm (base_by s) c)) in
           let groups : edge.group ≡ from.0 = p.settled.placed.bases_apart refl edge.group from.0 edge.inside from.1 (ap (λ x. base_by x) edge.parent ∙ (bases ∙ ap (λ x. base_by x) (sym from.2))) in
@@ -157,7 +154,7 @@ module _ {A : Type 0} {gs : List (SiblingGroup A)} {l : Layout} {edges : List (L
   -- what a byte leads to from a state's element
   pub element_at-child : (s c : ℕ) → s < length edges → s ≢ 1 → child_by_check (length es) (λ i. base_in (element_at es i)) (λ i. check_in (element_at es i)) (index_of s) c ≡ option_map (λ t. index_of t) (child_by s c)
   element_at-child s c less alive =
-      ap (λ b. look (length es) b (bit_xor b c) (check_of (bit_xor b c)) c) (p.held.states s less alive).base
+      ap (λ b. look (length es) b (bit_xor b c) (check_of (bit_xor b c)) c) (p.held.states.base s less alive)
       ∙ go (child_by s c) refl
     where
       go : (o : Option ℕ) → child_by s c ≡ o → look (length es) (base_by s) (bit_xor (base_by s) c) (check_of (bit_xor (base_by s) c)) c ≡ option_map (λ t. index_of t) o
@@ -168,16 +165,5 @@ module _ {A : Type 0} {gs : List (SiblingGroup A)} {l : Layout} {edges : List (L
           let high : 1 < t = bounds.2 in
           let unit : c < 256 = edge.unit in
           let inside : bit_xor (base_by s) c < length es = packed_xor (base_by s) c unit (within (base_by s) edge.below) in
-          let check : check_of (bit_xor (base_by s) c) ≡ c = ap (λ x. check_of x) (sym edge.at) ∙ (p.held.states t bounds.3 (omega (arith, high))).check s c e in
+          let check : check_of (bit_xor (base_by s) c) ≡ c = ap (λ x. check_of x) (sym edge.at) ∙ p.held.children s c t bounds.3 (omega (arith, high)) e in
           look_some (length es) (base_by s) (bit_xor (base_by s) c) (check_of (bit_xor (base_by s) c)) c edge.nonzero inside check ∙ ap (λ x. Some x) (sym edge.at)
-
-  -- the elements hold the states at their places
-  pub element_at-states : HoldPlaced l (length edges) fails positions 0 (λ i. base_in (element_at es i)) (λ i. fail_in (element_at es i)) (λ i. output_in (element_at es i))
-  element_at-states = record {
-    base = λ t less alive. (p.held.states t less alive).base;
-    fail = λ t less alive. (p.held.states t less alive).fail;
-    output = λ t less alive. (p.held.states t less alive).output;
-    no_base = λ i less none. (p.held.others i (within i less) none).base;
-    no_fail = λ i less none. (p.held.others i (within i less) none).fail;
-    no_output = λ i less none. (p.held.others i (within i less) none).output;
-  }

@@ -3,7 +3,6 @@ use Rattle.std.proofs.Common.{◌≡◌, ℕ, ◌-◌, ◌%◌, ◌^◌, ◌<◌
 use Rattle.std.specs.Ordering.{nat_cmp}
 use Rattle.std.proofs.lemmas.List.{length-map}
 use Rattle.daachorse_core.specs.declared.outputs.Output.{Output}
-use Rattle.daachorse_core.specs.Outputs.{ParentsFall}
 use Rattle.daachorse_model.specs.declared.MatchKind.{MatchKind}
 use Rattle.daachorse_model.specs.declared.MatchKind.TheVariants.{Standard, LeftmostLongest, LeftmostFirst}
 use Rattle.daachorse_model.specs.Dictionary.{Dictionary}
@@ -13,7 +12,7 @@ use Rattle.daachorse_model.specs.Paths.{Leads}
 use Rattle.daachorse_placement.specs.declared.build_helper.SiblingGroup.{SiblingGroup}
 use Rattle.daachorse_placement.specs.Layout.{Layout}
 use Rattle.daachorse_build.specs.Tables.{child_in as edge_to}
-use Rattle.daachorse_array.specs.Machines.{IsCounted, IsRight}
+use Rattle.daachorse_array.specs.Machines.{IsCounted}
 use Rattle.daachorse_array.specs.Copies.{HoldsDictionary, IsCopy}
 use Rattle.daachorse_array.proofs.CopyLaws.{content-same, copy-counted, copy-right}
 use Rattle.daachorse_bytewise_states.specs.declared.state.State.{State}
@@ -25,12 +24,11 @@ use Rattle.daachorse_bytewise_states.specs.Valid.{IsValid}
 use Rattle.daachorse_patterns.specs.Settled.{trie_of}
 use Rattle.daachorse_patterns.proofs.Held.{held-in_range, settled-states}
 use Rattle.daachorse_patterns.proofs.Places.{some-elements}
-use Rattle.daachorse_bytewise_states.proofs.PackedTrie.{element_at-states}
 use Rattle.std.proofs.Math.Nat.{mul-mod_left}
-use Rattle.daachorse_bytewise_states.proofs.PackedParts.{packed-IsCopy, parts-base, parts-count, parts-fail, parts-kind, parts-num_states, parts-output, parts-outputs}
+use Rattle.daachorse_bytewise_states.proofs.PackedParts.{packed-IsCopy, parts-base, parts-count, parts-fail, parts-output}
 
 -- which lists are used
-parts-shape : {V : Type 0} (kind : MatchKind) (es : List (State ℕ)) (outputs : List (Output V)) (n : ℕ) → HasShape (parts_of kind es outputs n) (is_leftmost (parts_of kind es outputs n).kind)
+parts-shape : {V : Type 0} (kind : MatchKind) (es : List (State ℕ)) (outputs : List (Output V)) (n : ℕ) → HasShape (parts_of kind es outputs n) (is_leftmost kind)
 parts-shape Standard es outputs n = (refl, refl)
 parts-shape LeftmostLongest es outputs n = (refl, length-map es fail_in ∙ sym (length-map es without_link))
 parts-shape LeftmostFirst es outputs n = (refl, length-map es fail_in ∙ sym (length-map es without_link))
@@ -43,13 +41,13 @@ module _ {A V : Type 0} {gs : List (SiblingGroup A)} {l : Layout} {edges : List 
   inside_at : (i : ℕ) → i < count parts → (base_of parts i < count parts) × (fail_of parts i < count parts) × (output_of parts i ≤ length parts.outputs)
   inside_at i low =
       let size : count parts ≡ length es = parts-count es outputs n kind in
-      let range = held-in_range p.settled fails positions (element_at-states p) byte_width (is_leftmost kind) K outputs holds root_link fits (some-elements p.settled) i (subst (λ (x : ℕ). i < x) (size ∙ p.held.size) low) in
+      let range = held-in_range p.settled fails positions p.held.states byte_width (is_leftmost kind) K outputs holds root_link fits (some-elements p.settled) i (subst (λ (x : ℕ). i < x) (size ∙ p.held.size) low) in
       let base : base_of parts i ≡ base_in (element_at es i) = parts-base es outputs n kind i in
       let fail : fail_of parts i ≡ fail_in (element_at es i) = parts-fail es outputs n kind i in
       let output : output_of parts i ≡ output_in (element_at es i) = parts-output es outputs n kind i in (
         subst (λ (x : ℕ). base_of parts i < x) (sym size) (subst (λ (x : ℕ). x < length es) (sym base) (subst (λ (x : ℕ). base_in (element_at es i) < x) (sym p.held.size) range.base)),
         subst (λ (x : ℕ). fail_of parts i < x) (sym size) (subst (λ (x : ℕ). x < length es) (sym fail) (subst (λ (x : ℕ). fail_in (element_at es i) < x) (sym p.held.size) range.fail)),
-        subst (λ (os : List (Output V)). output_of parts i ≤ length os) (sym (parts-outputs es outputs n kind)) (subst (λ (x : ℕ). x ≤ length outputs) (sym output) range.output),
+        subst (λ (x : ℕ). x ≤ length outputs) (sym output) range.output,
       )
 
   wide : (u : ℕ) → 1 ≤ byte_width u
@@ -63,18 +61,15 @@ module _ {A V : Type 0} {gs : List (SiblingGroup A)} {l : Layout} {edges : List 
     grouped = record {
       blocks = subst (λ (x : ℕ). x % 256 ≡ 0) (sym (parts-count es outputs n kind ∙ p.held.size ∙ p.settled.sizes.elements)) (mul-mod_left l.blocks 256);
       some = subst (λ (x : ℕ). 0 < x) (sym (parts-count es outputs n kind)) (subst (λ (x : ℕ). 0 < x) (sym p.held.size) (some-elements p.settled));
-      few = record {
-        elements = subst (λ (x : ℕ). x < 2 ^ 32) (sym (parts-count es outputs n kind)) few;
-        outputs = subst (λ (os : List (Output V)). length os < 2 ^ 32) (sym (parts-outputs es outputs n kind)) few_outputs;
-      };
+      few = record { elements = subst (λ (x : ℕ). x < 2 ^ 32) (sym (parts-count es outputs n kind)) few; outputs = few_outputs };
       shape = parts-shape kind es outputs n;
       bases = λ i low. (inside_at i low).0;
     };
     sound = record {
       ranges = record { links = λ i low. (inside_at i low).1; positions = λ i low. (inside_at i low).2 };
-      parents_fall = subst (λ (os : List (Output V)). ParentsFall os) (sym (parts-outputs es outputs n kind)) holds.parents_fall;
-      right = subst (λ (k : MatchKind). IsRight byte_width (machine parts) (is_leftmost k)) (sym (parts-kind es outputs n kind)) (copy-right byte_width wide K (is_leftmost kind) (trie_of edges fails positions) outputs holds (machine parts) (λ t. get_or l.idx t 0) copy);
-      counted = subst (λ (m : ℕ). IsCounted (machine parts) m) (sym (parts-num_states es outputs n kind ∙ counted)) (copy-counted byte_width wide K (is_leftmost kind) (trie_of edges fails positions) outputs holds (machine parts) (λ t. get_or l.idx t 0) copy (length edges) (settled-states p.settled fails positions));
+      parents_fall = holds.parents_fall;
+      right = copy-right byte_width wide K (is_leftmost kind) (trie_of edges fails positions) outputs holds (machine parts) (λ t. get_or l.idx t 0) copy;
+      counted = subst (λ (m : ℕ). IsCounted (machine parts) m) (sym counted) (copy-counted byte_width wide K (is_leftmost kind) (trie_of edges fails positions) outputs holds (machine parts) (λ t. get_or l.idx t 0) copy (length edges) (settled-states p.settled fails positions));
     };
   }
 

@@ -4,15 +4,18 @@ use Rattle.std.specs.declared.num.NonZeroU32.{NonZeroU32}
 use Rattle.daachorse_core.specs.Outputs.{number}
 use Rattle.daachorse_core.specs.declared.turns.Look.TheVariants.{Next}
 use Rattle.daachorse_model.specs.Kinds.{is_leftmost}
+use Rattle.daachorse_model.specs.Units.{byte_width}
 use Rattle.daachorse_array.proofs.ChildLaws.{child_at-same}
-use Rattle.daachorse_array.proofs.DeadLaws.{kind_standard}
+use Rattle.daachorse_array.proofs.DeadLaws.{kind_standard, none_dead}
+use Rattle.daachorse_array.proofs.MachineLaws.{standard-alive}
+use Rattle.daachorse_array.specs.Machines.{IsMachine}
 use Rattle.daachorse_bytewise_states.specs.Children.{child_from}
 use Rattle.daachorse_bytewise_states.specs.declared.state.State.{State}
 use Rattle.daachorse_bytewise_states.specs.Elements.{base_in, check_in, output_in}
-use Rattle.daachorse_bytewise_states.specs.Parts.{Parts, base_of, check_of, child, child_by, count, fail_of, output_of}
+use Rattle.daachorse_bytewise_states.specs.Parts.{Parts, base_of, check_of, child, child_by, count, fail_of, machine, output_of}
 use Rattle.daachorse_bytewise_states.specs.Valid.{IsState}
 use Rattle.daachorse_bytewise_states.specs.Views.{IsSeen}
-use Rattle.daachorse_bytewise_states.proofs.ByteLaws.{Gives, link_alive, look_table, state_inside, table_output}
+use Rattle.daachorse_bytewise_states.proofs.ByteLaws.{Gives, look_table, state_inside, table_output, valid_machine}
 
 -- q is what is borrowed, and p what contracts see of it
 pub seen_by : {V F B : Type 0} {leftmost : Bool} {link : State F → List B → ℕ → ℕ} {es : List (State F)} {beside : List B} {root : List (ℕ × ℕ)} {q p : Parts V}
@@ -20,6 +23,9 @@ pub seen_by : {V F B : Type 0} {leftmost : Bool} {link : State F → List B → 
 seen_by {leftmost = leftmost} {link = link} {es = es} {beside = beside} {root = root} is seen = subst (λ x. IsSeen leftmost link es beside root x) is seen
 
 module _ {V F B : Type 0} {leftmost : Bool} {link : State F → List B → ℕ → ℕ} {es : List (State F)} {beside : List B} {root : List (ℕ × ℕ)} {p : Parts V} (seen : IsSeen leftmost link es beside root p) where
+  pub seen_machine : IsMachine byte_width (machine p) (is_leftmost p.kind) (count p) 256
+  seen_machine = valid_machine p seen.stored.valid
+
   pub seen_inside : (i : ℕ) → IsState p i → i < length es
   seen_inside i r = let inside : i < count p = state_inside p seen.stored.valid i r in omega (arith, inside, seen.size)
 
@@ -46,7 +52,7 @@ module _ {V F B : Type 0} {leftmost : Bool} {link : State F → List B → ℕ �
 
   -- no link is dead where the searches are standard
   pub seen_alive : leftmost ≡ false → (i f : ℕ) → IsState p i → i ≢ 0 → fail_of p i ≡ f → f ≢ 1
-  seen_alive standard = link_alive p seen.stored.valid (kind_standard p.kind (seen.kind ∙ standard))
+  seen_alive standard i f r other at one = standard-alive _ _ _ _ _ seen_machine i r other (none_dead byte_width (machine p) p.kind (kind_standard p.kind (seen.kind ∙ standard))) (at ∙ one)
 
   -- what the table of the root has for a byte, with the first output there
   pub seen_entry : leftmost ≡ false → (i c : ℕ) (to : ℕ × ℕ) → IsState p i → c < 256 → i ≡ 0 → to ≡ slice_index_or root c (0, 0) → (o : Option NonZeroU32) → number o ≡ to.1 / 256 → Gives p i c (Next to.0 o) × (output_of p to.0 ≡ number o)

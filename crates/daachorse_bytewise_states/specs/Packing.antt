@@ -11,7 +11,7 @@ use Rattle.daachorse_model.specs.declared.MatchKind.{MatchKind}
 use Rattle.daachorse_model.specs.Dictionary.{Dictionary}
 use Rattle.daachorse_model.specs.Units.{byte_width}
 use Rattle.daachorse_patterns.specs.Tries.{IsBuilt}
-use Rattle.daachorse_patterns.specs.Settled.{AreGroupsOf, AreSettled}
+use Rattle.daachorse_patterns.specs.Settled.{AreGroupsOf, AreSettled, HoldStates, IsVacantAt}
 use Rattle.daachorse_bytewise_states.specs.declared.state.State.{State}
 use Rattle.daachorse_bytewise_states.specs.Elements.{base_in, check_in, fail_in, output_in, vacant}
 
@@ -26,20 +26,13 @@ pub record IsVacant (l : Layout) (i : ℕ) (e : State ℕ) : Type 0 where
   pub output : output_in e ≡ 0
   pub check : (u : ℕ) → IsLeastUnused l.marks 256 (i / 256) u → check_in e ≡ bit_xor i u
 
--- The element of the state t of a trie with these edges, links and positions.
-pub record IsElementOf (l : Layout) (edges : List (List (ℕ × ℕ))) (fails positions : List ℕ) (t : ℕ) (e : State ℕ) : Type 0 where
-  pub base : base_in e ≡ slice_index l.bases t
-  pub fail : fail_in e ≡ slice_index l.idx (slice_index fails t)
-  pub output : output_in e ≡ slice_index positions t
-  pub check : (s c : ℕ) → edge_to nat_cmp edges s c ≡ Some t → check_in e ≡ c
-
--- The elements hold the trie: each state but the dead one stands at its index, and all other elements are vacant.
+-- The elements hold the trie: each state but the dead one stands at its index, and all other elements are vacant. A child's check is its byte, and nothing leads to the root.
 pub record ElementsHoldTrie (l : Layout) (edges : List (List (ℕ × ℕ))) (fails positions : List ℕ) (es : List (State ℕ)) : Type 0 where
   pub size : length es ≡ length l.used
-  pub states : (t : ℕ) → t < length edges → t ≢ 1 → IsElementOf l edges fails positions t (element_at es (slice_index l.idx t))
-  -- nothing leads to the root
+  pub states : HoldStates l (length edges) fails positions 0 (λ i. base_in (element_at es i)) (λ i. fail_in (element_at es i)) (λ i. output_in (element_at es i))
+  pub children : (s c t : ℕ) → t < length edges → t ≢ 1 → edge_to nat_cmp edges s c ≡ Some t → check_in (element_at es (slice_index l.idx t)) ≡ c
   pub root : check_in (element_at es (slice_index l.idx 0)) ≡ 0
-  pub others : (i : ℕ) → i < length es → ((t : ℕ) → t < length edges → t ≢ 1 → slice_index l.idx t ≢ i) → IsVacant l i (element_at es i)
+  pub others : (i : ℕ) → i < length es → IsVacantAt l (length edges) i → (u : ℕ) → IsLeastUnused l.marks 256 (i / 256) u → check_in (element_at es i) ≡ bit_xor i u
 
 -- Groups that are the edges of a trie over bytes: a byte is its own code.
 abbrev pub AreByteGroups : {A : Type 0} → List (SiblingGroup A) → List (List (ℕ × ℕ)) → Type 0

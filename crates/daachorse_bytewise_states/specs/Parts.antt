@@ -3,7 +3,6 @@ use Rattle.std.specs.Prelude.{ℕ, ◌==◌, bit_xor, nat_lt, cond, List, [], le
 use Rattle.daachorse_core.specs.declared.outputs.Empty.{Empty}
 use Rattle.daachorse_core.specs.declared.outputs.Output.{Output}
 use Rattle.daachorse_model.specs.declared.MatchKind.{MatchKind}
-use Rattle.daachorse_model.specs.declared.MatchKind.TheVariants.{Standard}
 use Rattle.daachorse_model.specs.Kinds.{is_leftmost}
 use Rattle.daachorse_model.specs.Units.{byte_width}
 use Rattle.daachorse_model.specs.Dictionary.{Dictionary}
@@ -81,4 +80,5 @@ parts_with kind standard leftmost fails outputs n =
 -- the parts that elements with their links make up
 abbrev pub parts_of : {V : Type 0} → MatchKind → List (State ℕ) → List (Output V) → ℕ → Parts V
 parts_of kind elements outputs n =
-    cond (is_leftmost kind) (parts_with kind [] (map without_link elements) (map fail_in elements) outputs n) (parts_with Standard elements [] [] outputs n)
+    let left = is_leftmost kind in
+    parts_with kind (cond left [] elements) (cond left (map without_link elements) []) (cond left (map fail_in elements) []) outputs n

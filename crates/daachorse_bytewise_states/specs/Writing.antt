@@ -1,11 +1,12 @@
 -- How the elements come about: by state the label that leads to it, a block of vacant elements after the other, and then each state at its place.
-use Rattle.std.specs.Prelude.{◌≡◌, ◌≢◌, ℕ, ◌+◌, ◌<◌, ◌≤◌, ◌%◌, bit_xor, List, length, slice_index, Some}
+use Rattle.std.specs.Prelude.{◌≡◌, ℕ, ◌+◌, ◌<◌, ◌≤◌, ◌%◌, bit_xor, List, length, slice_index, Some}
 use Rattle.std.specs.Ordering.{nat_cmp}
 use Rattle.daachorse_placement.specs.Layout.{Layout}
 use Rattle.daachorse_build.specs.Tables.{child_in as edge_to}
 use Rattle.daachorse_bytewise_states.specs.declared.state.State.{State}
-use Rattle.daachorse_bytewise_states.specs.Elements.{base_in, check_in, fail_in, output_in}
+use Rattle.daachorse_bytewise_states.specs.Elements.{base_in, check_in, fail_in, output_in, vacant}
 use Rattle.daachorse_bytewise_states.specs.Packing.{IsVacant, element_at}
+use Rattle.daachorse_patterns.specs.Settled.{AreWritten}
 
 -- by state the label of the edge to it; nothing leads to the root
 pub record AreLabelled (edges : List (List (ℕ × ℕ))) (labels : List ℕ) : Type 0 where
@@ -27,11 +28,6 @@ pub record HasVacants (n u : ℕ) (old new : List (State ℕ)) : Type 0 where
   pub output : (i : ℕ) → length old ≤ i → i < length new → output_in (element_at new i) ≡ 0
   pub check : (i : ℕ) → length old ≤ i → i < length new → check_in (element_at new i) ≡ bit_xor i u % 256
 
--- the first m states but the dead one are written, and nothing else
-pub record HasWritten (m : ℕ) (idx bases labels fails positions : List ℕ) (old new : List (State ℕ)) : Type 0 where
-  pub size : length new ≡ length old
-  pub base : (t : ℕ) → t < m → t ≢ 1 → base_in (element_at new (slice_index idx t)) ≡ slice_index bases t
-  pub check : (t : ℕ) → t < m → t ≢ 1 → check_in (element_at new (slice_index idx t)) ≡ slice_index labels t
-  pub fail : (t : ℕ) → t < m → t ≢ 1 → fail_in (element_at new (slice_index idx t)) ≡ slice_index idx (slice_index fails t)
-  pub output : (t : ℕ) → t < m → t ≢ 1 → output_in (element_at new (slice_index idx t)) ≡ slice_index positions t
-  pub others : (i : ℕ) → ((t : ℕ) → t < m → t ≢ 1 → slice_index idx t ≢ i) → element_at new i ≡ element_at old i
+-- the first m states but the dead one are written, with their labels for checks, and nothing else
+abbrev pub HasWritten : ℕ → List ℕ → List ℕ → List ℕ → List ℕ → List ℕ → List (State ℕ) → List (State ℕ) → Type 0
+HasWritten m idx bases labels fails positions = AreWritten vacant base_in check_in fail_in output_in m idx bases (slice_index labels) fails positions

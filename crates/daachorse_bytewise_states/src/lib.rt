@@ -4,8 +4,6 @@
 #![tactic(auto)]
 
 pub mod edges;
-mod filters;
-mod folded;
 pub mod for_kinds;
 mod packing;
 pub mod patterns;

@@ -22,7 +22,6 @@ use daachorse_core::DEAD_STATE_IDX;
 use daachorse_core::errors::Result;
 use daachorse_placement::build_helper::{BuildHelper, Profile, SiblingGroup};
 use std::alloc::Allocator;
-use std::num::NonZeroU32;
 
 /// The length of a block: all bytes lead from one base into one block.
 pub(crate) const BLOCK_LEN: u32 = 256;
@@ -174,9 +173,8 @@ fn push_block<A: Allocator>(
     ensures err { IfErr result IsOutOfMemory }
 {
     for idx in first..first + BLOCK_LEN {
-        let mut element = State::default();
-        element.set_check(((idx ^ unused_base) % BLOCK_LEN) as u8);
-        elements.push(element)?;
+        let check = ((idx ^ unused_base) % BLOCK_LEN) as u8;
+        elements.push(State::new(0, check, 0, None))?;
     }
     Ok(())
 }
@@ -202,25 +200,6 @@ fn place_states<V: Copy, A: Allocator>(
         }
         let fail = idx_map[state.fail() as usize];
         let idx = idx_map[id] as usize;
-        elements[idx] = element_of(bases[id], labels[id], fail, state.output_pos());
+        elements[idx] = State::new(bases[id], labels[id], fail, state.output_pos());
     }
-}
-
-/// An element with these parts.
-fn element_of(base: u32, check: u8, fail: u32, output_pos: Option<NonZeroU32>) -> State<u32>
-    requires { number output_pos < 2 ^ 24 }
-    ensures base { base_in result ≡ base }
-    ensures check { check_in result ≡ check }
-    ensures fail { fail_in result ≡ fail }
-    ensures output { output_in result ≡ number output_pos }
-{
-    let mut element = State::default();
-    if let Some(base) = NonZeroU32::new(base) {
-        element.set_base(base);
-    }
-    element.set_check(check);
-    element.set_fail(fail);
-    let fits = element.set_output_pos(output_pos);
-    prove!(fits.is_ok());
-    element
 }

@@ -5,21 +5,8 @@ use crate::forms::has_form;
 use daachorse_bytewise_states::state::State;
 use daachorse_charwise_states::state::State as CharacterState;
 use daachorse_core::Empty;
-use daachorse_core::errors::Result;
 use std::num::NonZeroU32;
 use std::test::Fail;
-
-/// An element over bytes. A base or a position of 0 stands for none.
-fn element(base: u32, check: u8, fail: u32, position: u32) -> Result<State<u32>> {
-    let mut element = State::default();
-    if let Some(base) = NonZeroU32::new(base) {
-        element.set_base(base);
-    }
-    element.set_check(check);
-    element.set_fail(fail);
-    element.set_output_pos(NonZeroU32::new(position))?;
-    Ok(element)
-}
 
 /// Whether an element over bytes has these parts.
 fn has_parts(element: &State<u32>, base: u32, check: u8, fail: u32, position: u32) -> bool {
@@ -30,14 +17,11 @@ fn has_parts(element: &State<u32>, base: u32, check: u8, fail: u32, position: u3
 }
 
 #[test]
-fn an_element_of_bytes_keeps_its_parts(rt: HostRuntime) -> Result<(), Fail> {
-    let mut element = element(0xffff_ffff, 0xff, 7, 0x00ff_ffff)?;
-    let refused = element.set_output_pos(NonZeroU32::new(0x0100_0000));
-    expect(&rt, refused.is_err(), "a position past 24 bits");
+fn an_element_of_bytes_keeps_its_parts(rt: HostRuntime) {
+    let element = State::new(0xffff_ffff, 0xff, 7, NonZeroU32::new(0x00ff_ffff));
     let same = has_parts(&element, 0xffff_ffff, 0xff, 7, 0x00ff_ffff);
     expect(&rt, same, "the parts");
     expect(&rt, element.without_link().fail() == Empty, "the link");
-    Ok(())
 }
 
 /// An element over characters. A base or a position of 0 stands for none.
@@ -90,7 +74,7 @@ fn a_child_names_its_parent(rt: HostRuntime) {
 #[test]
 fn elements_have_their_forms(rt: HostRuntime) -> Result<(), Fail> {
     let alloc = rt.alloc();
-    let linked = element(101, 98, 7, 2)?;
+    let linked = State::new(101, 98, 7, NonZeroU32::new(2));
     has_form(&rt, alloc, linked, &[101, 0, 0, 0, 7, 0, 0, 0, 98, 2, 0, 0])?;
     let rest = linked.without_link();
     has_form(&rt, alloc, rest, &[101, 0, 0, 0, 98, 2, 0, 0])?;

@@ -1,5 +1,5 @@
 -- A trie whose groups of siblings are placed in a double array, and what stands at the places.
-use Rattle.std.specs.Prelude.{◌≡◌, ◌≢◌, ℕ, ◌+◌, ◌*◌, ◌<◌, ◌≤◌, ◌^◌, Bool, List, length, slice_index, Some}
+use Rattle.std.specs.Prelude.{◌≡◌, ◌≢◌, ℕ, ◌+◌, ◌*◌, ◌<◌, ◌≤◌, ◌^◌, Bool, List, length, slice_index, slice_index_or, Some}
 use Rattle.std.specs.Int.{IsPowerOfTwo}
 use Rattle.std.specs.Ordering.{nat_cmp}
 use Rattle.daachorse_placement.specs.declared.build_helper.SiblingGroup.{SiblingGroup}
@@ -50,3 +50,12 @@ pub record HavePlaces (idx : List ℕ) (n elements : ℕ) : Type 0 where
   pub size : length idx ≡ n
   pub inside : (t : ℕ) → t < n → slice_index idx t < elements
   pub apart : (t v : ℕ) → t < n → v < n → t ≢ 1 → v ≢ 1 → slice_index idx t ≡ slice_index idx v → t ≡ v
+
+-- The first m states but the dead one are written at their places, with these checks, and nothing else. An element is read by its parts.
+pub record AreWritten {E : Type 0} (vacant : E) (base_in check_in fail_in output_in : E → ℕ) (m : ℕ) (idx bases : List ℕ) (checks : ℕ → ℕ) (fails positions : List ℕ) (old new : List E) : Type 0 where
+  pub size : length new ≡ length old
+  pub base : (t : ℕ) → t < m → t ≢ 1 → base_in (slice_index_or new (slice_index idx t) vacant) ≡ slice_index bases t
+  pub check : (t : ℕ) → t < m → t ≢ 1 → check_in (slice_index_or new (slice_index idx t) vacant) ≡ checks t
+  pub fail : (t : ℕ) → t < m → t ≢ 1 → fail_in (slice_index_or new (slice_index idx t) vacant) ≡ slice_index idx (slice_index fails t)
+  pub output : (t : ℕ) → t < m → t ≢ 1 → output_in (slice_index_or new (slice_index idx t) vacant) ≡ slice_index positions t
+  pub others : (i : ℕ) → ((t : ℕ) → t < m → t ≢ 1 → slice_index idx t ≢ i) → slice_index_or new i vacant ≡ slice_index_or old i vacant

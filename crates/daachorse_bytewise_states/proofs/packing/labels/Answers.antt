@@ -4,7 +4,7 @@ use Rattle.std.proofs.lemmas.List.{length-map}
 use Rattle.std.proofs.lemmas.Result.{err_from_is_err_and}
 use Rattle.daachorse_build.specs.Tables.{edge_map, edges_of}
 use Rattle.daachorse_bytewise_states.specs.Writing.{AreLabelled}
-use Rattle.daachorse_bytewise_states.proofs.WrittenLaws.{written_back}
+use Rattle.daachorse_patterns.proofs.Written.{written_back}
 use Rattle.daachorse_bytewise_states.proofs.packing.labels.Goals as goal
 
 pub returns-in_err-labels : goal.returns-in_err-labels

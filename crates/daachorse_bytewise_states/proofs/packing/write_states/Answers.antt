@@ -7,7 +7,8 @@ use Rattle.daachorse_patterns.specs.Settled.{HavePlaces}
 use Rattle.daachorse_bytewise_states.specs.declared.state.State.{State}
 use Rattle.daachorse_bytewise_states.specs.Packing.{ElementsHoldTrie}
 use Rattle.daachorse_bytewise_states.specs.Writing.{HasWritten}
-use Rattle.daachorse_bytewise_states.proofs.WrittenLaws.{written-held, written_back}
+use Rattle.daachorse_patterns.proofs.Written.{written_back}
+use Rattle.daachorse_bytewise_states.proofs.WrittenLaws.{written-held}
 use Rattle.daachorse_bytewise_states.proofs.packing.write_states.Goals as goal
 
 pub labels-requires : goal.labels-requires

@@ -4,10 +4,8 @@ use Rattle.std.proofs.lemmas.Grind.{common_steps}
 use Rattle.daachorse_bytewise_states.specs.Elements.{vacant_left}
 use Rattle.daachorse_bytewise_states.proofs.unchecked.are_leftmost.Goals as goal
 
-pub returns-clause-yes : goal.returns-clause-yes
-returns-clause-yes c e =
+pub returns : goal.returns
+returns c =
     let none : length c.args.standard.now ≡ 0 = grind (arith, common_steps, c.is_empty.ensures, c.if-not-is_empty.false) in
-    (none, omega (arith, c.if-fails-leftmost.false), c.are_blocks.ensures.yes e vacant_left)
-
-pub returns-clause-no : goal.returns-clause-no
-returns-clause-no c e are = c.are_blocks.ensures.no e vacant_left are.2
+    let blocks = c.are_blocks.ensures vacant_left in
+    (λ e. (none, omega (arith, c.if-fails-leftmost.false), blocks.0 e), λ are. blocks.1 are.2)

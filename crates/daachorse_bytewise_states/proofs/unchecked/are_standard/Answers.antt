@@ -4,11 +4,9 @@ use Rattle.std.proofs.lemmas.Grind.{common_steps}
 use Rattle.daachorse_bytewise_states.specs.Elements.{vacant}
 use Rattle.daachorse_bytewise_states.proofs.unchecked.are_standard.Goals as goal
 
-pub returns-clause-yes : goal.returns-clause-yes
-returns-clause-yes c e =
+pub returns : goal.returns
+returns c =
     let none : length c.args.leftmost.now ≡ 0 = grind (arith, common_steps, c.is_empty.ensures, c.if-not-is_empty.false) in
     let no_links : length c.args.fails.now ≡ 0 = grind (arith, common_steps, c.is_empty-2.ensures, c.if-not-is_empty-2.false) in
-    (none, no_links, c.are_blocks.ensures.yes e vacant)
-
-pub returns-clause-no : goal.returns-clause-no
-returns-clause-no c e are = c.are_blocks.ensures.no e vacant are.2
+    let blocks = c.are_blocks.ensures vacant in
+    (λ e. (none, no_links, blocks.0 e), λ are. blocks.1 are.2)

@@ -1,5 +1,5 @@
 -- What is built is packed, and the parts hold the builder's dictionary.
-use Rattle.std.proofs.Common.{◌≡◌, ◌-◌, ℕ, List, length, ◌∙◌, ap, subst, sym}
+use Rattle.std.proofs.Common.{◌≡◌, ◌-◌, ℕ, List, length, ap, subst, sym}
 use Rattle.std.proofs.lemmas.Result.{IfOk-from_err, IfOk-weaker, IfErr-weaker, err_from_is_err_and}
 use Rattle.daachorse_core.specs.declared.errors.DaachorseError.{DaachorseError}
 use Rattle.daachorse_core.specs.declared.errors.Limit.TheVariants.{NumElements}
@@ -14,7 +14,6 @@ use Rattle.daachorse_patterns.specs.Settled.{HasManyGroups}
 use Rattle.daachorse_patterns.specs.Prefixes.{HasMoreProperPrefixes}
 use Rattle.daachorse_bytewise_states.specs.Valid.{IsValid}
 use Rattle.daachorse_bytewise_states.proofs.BuiltLaws.{built-content, built-links, built-many, built-outputs, built-valid}
-use Rattle.daachorse_bytewise_states.proofs.PackedParts.{parts-kind}
 use Rattle.daachorse_bytewise_states.proofs.states.States.build.Goals as goal
 
 pub pack-requires-clause-trie : goal.pack-requires-clause-trie
@@ -55,10 +54,7 @@ returns g c = record {
       let O : List (Output g.row.V.Denot) → Type 0 = λ os. content (parts_of c.args.kind c.in_ok-elements.elements.items os (length c.states.result.now - 1)) w ≡ K w in
       subst P (sym made) (subst O (sym c.into_parts-states.ensures.outputs) (built-content c.args.kind c.args.nfa K built c.in_ok-elements.elements.items c.in_ok-elements.ensures.ok (length c.states.result.now - 1) w)))
       c.new.ensures.ok;
-  kind =
-      IfOk-weaker c.new.result _ _
-      (λ s made. ap (λ (p : Parts g.row.V.Denot). p.kind) made ∙ parts-kind c.in_ok-elements.elements.items c.into_parts-states.result.1.items (length c.states.result.now - 1) c.args.kind)
-      c.new.ensures.ok;
+  kind = IfOk-weaker c.new.result _ _ (λ s made. ap (λ (p : Parts g.row.V.Denot). p.kind) made) c.new.ensures.ok;
   err =
       IfErr-weaker c.new.result _ _
       (λ e out. let P : DaachorseError → Type 0 = λ x. IsRefusal ⊥ NumElements ((K : Dictionary g.row.V.Denot) → IsBuiltFor c.args.kind c.args.nfa K → HasMoreProperPrefixes K 16777214) x in subst P (sym out) tt)

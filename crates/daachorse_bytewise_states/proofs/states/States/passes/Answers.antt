@@ -1,11 +1,10 @@
 -- What is stored is valid, so that its keys are the texts of the elements with own outputs, and a byte spells itself.
 use Rattle.std.proofs.Common.{◌≡◌, ℕ, List, [], ◌∷◌, refl, sym, ap, subst}
 use Rattle.std.specs.Prelude.{flat_map}
-use Rattle.daachorse_model.specs.Kinds.{is_leftmost}
-use Rattle.daachorse_model.specs.Units.{byte_width}
+use Rattle.std.proofs.lemmas.Bool.{true_from_ne_false}
 use Rattle.daachorse_checker.proofs.KeyLaws.{all_from_each, each_from_all}
 use Rattle.daachorse_prefilter.specs.Filters.{PassesKeys}
-use Rattle.daachorse_bytewise_states.specs.Parts.{Parts, content, count, machine}
+use Rattle.daachorse_bytewise_states.specs.Parts.{Parts, content}
 use Rattle.daachorse_bytewise_states.proofs.ByteLaws.{child_inside, valid_machine}
 use Rattle.daachorse_bytewise_states.proofs.EdgeLaws.{valid_tells}
 use Rattle.daachorse_bytewise_states.proofs.states.States.passes.Goals as goal
@@ -19,18 +18,15 @@ passes_all-requires-clause-edges g c =
     let p = c.elements-elements.result in
     record { inside = child_inside p; tell = valid_tells p c.elements-elements.ensures.valid }
 
-pub returns-clause-yes : goal.returns-clause-yes
-returns-clause-yes g c e =
-    let p = c.elements-elements.result in
+pub returns-clause-ok : goal.returns-clause-ok
+returns-clause-ok g c =
+    let is = c.elements-elements.ensures in
+    let machine = valid_machine c.elements-elements.result is.valid in
     let P : Parts g.row.V.Denot → Type 0 = λ p. PassesKeys (λ w. w) (content p) c.args.filter.now in
-    subst P c.elements-elements.ensures.parts
-    (rw c.in-Some.is
-    (each_from_all byte_width (machine p) (is_leftmost p.kind) (count p) 256 (valid_machine p c.elements-elements.ensures.valid) (λ byte. byte ∷ []) (λ w. w) spells c.in-Some.filter (c.in_ok-passes.ensures.yes e)))
-
-pub returns-clause-no : goal.returns-clause-no
-returns-clause-no g c e each =
-    let p = c.elements-elements.result in
-    let P : Parts g.row.V.Denot → Type 0 = λ p. PassesKeys (λ w. w) (content p) c.args.filter.now in
-    let here = subst P (sym c.elements-elements.ensures.parts) each in
-    c.in_ok-passes.ensures.no e
-    (all_from_each byte_width (machine p) (is_leftmost p.kind) (count p) 256 (valid_machine p c.elements-elements.ensures.valid) (λ byte. byte ∷ []) (λ w. w) spells c.in-Some.filter (rw c.in-Some.is at here))
+    let passes = c.in_ok-passes.ensures in
+    (
+      λ e. subst P is.parts (rw c.in-Some.is (each_from_all _ _ _ _ _ machine (λ byte. byte ∷ []) (λ w. w) spells c.in-Some.filter (passes.yes e))),
+      λ each. true_from_ne_false _ (λ e.
+          let here = subst P (sym is.parts) each in
+          passes.no e (all_from_each _ _ _ _ _ machine (λ byte. byte ∷ []) (λ w. w) spells c.in-Some.filter (rw c.in-Some.is at here))),
+    )

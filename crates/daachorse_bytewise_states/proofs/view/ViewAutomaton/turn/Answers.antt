@@ -1,8 +1,9 @@
 -- The element's child ends the step, and without one the root does if the look is at the root or at a dead link; else the link is told. In valid parts child and link are those of the dictionary.
 use Rattle.std.proofs.Common.{◌≢◌, ◌<◌, ◌/◌, ◌∙◌, ap, arith, cond, length, sym}
 use Rattle.daachorse_core.specs.declared.turns.Look.TheVariants.{Next, Fail}
-use Rattle.daachorse_bytewise_states.proofs.ByteLaws.{first_at, gives_label, look_child, look_dead, look_fail, look_root, root_state}
-use Rattle.daachorse_bytewise_states.proofs.ViewLaws.{seen_alive, seen_base, seen_by, seen_child, seen_entry, seen_inside, seen_link}
+use Rattle.daachorse_array.proofs.MachineLaws.{Reached-root, first-output, turn-dead, turn-link, turn-next, turn-root}
+use Rattle.daachorse_bytewise_states.proofs.ByteLaws.{gives_label}
+use Rattle.daachorse_bytewise_states.proofs.ViewLaws.{seen_alive, seen_base, seen_by, seen_child, seen_entry, seen_inside, seen_link, seen_machine}
 use Rattle.daachorse_bytewise_states.proofs.view.ViewAutomaton.turn.Goals.{else-are_leftmost-via-then-are_leftmost+else-link-eq-DEAD_STATE_IDX, else-are_leftmost-via-else-are_leftmost}
 use Rattle.daachorse_bytewise_states.proofs.view.ViewAutomaton.turn.Goals as goal
 
@@ -23,7 +24,7 @@ pub returns-in-Some-clause-output : goal.returns-in-Some-clause-output
 returns-in-Some-clause-output g c = λ unit same.
     let seen = seen_by c.self.view_is c.self.invariant in
     let entry = seen_entry seen c.in-Some.ensures.0 c.args.state c.args.label (c.in-Some.child, c.in-Some.word) c.requires (omega arith) c.if-state-eq-ROOT_STATE_IDX.true c.in-Some.ensures.1 c.position_in.result c.position_in.ensures in
-    first_at _ seen.stored.valid c.in-Some.child c.position_in.result entry.0.0 entry.1
+    first-output _ _ _ _ _ (seen_machine seen) c.in-Some.child c.position_in.result entry.0.0 entry.1
 
 pub bounds-states-state : goal.bounds-states-state
 bounds-states-state g c = seen_inside (seen_by c.self.view_is c.self.invariant) c.args.state c.requires
@@ -41,7 +42,7 @@ returns-in-Some-child_and_word-clause-once g c =
     let seen = seen_by c.self.view_is c.self.invariant in
     let at = c.in-Some-child_and_word in
     let next = seen_child seen _ c.args.state c.index-states-state.is c.requires c.args.label ∙ at.ensures.0 in
-    look_child _ seen.stored.valid c.args.state c.args.label at.child c.requires next c.position_in-in-Some-child_and_word.result
+    turn-next _ _ _ _ _ (seen_machine seen) c.args.state c.args.label at.child c.requires next c.position_in-in-Some-child_and_word.result
 
 pub returns-in-Some-child_and_word-clause-look :
     goal.returns-in-Some-child_and_word-clause-look
@@ -54,14 +55,14 @@ returns-in-Some-child_and_word-clause-output g c = λ unit same.
     let seen = seen_by c.self.view_is c.self.invariant in
     let at = c.in-Some-child_and_word in
     let reached = (returns-in-Some-child_and_word-clause-once g c).0 in
-    first_at _ seen.stored.valid at.child c.position_in-in-Some-child_and_word.result reached (seen.output at.child _ (seen_inside seen at.child reached) ∙ (sym (ap (λ w. w / 256) at.ensures.1) ∙ sym c.position_in-in-Some-child_and_word.ensures))
+    first-output _ _ _ _ _ (seen_machine seen) at.child c.position_in-in-Some-child_and_word.result reached (seen.output at.child _ (seen_inside seen at.child reached) ∙ (sym (ap (λ w. w / 256) at.ensures.1) ∙ sym c.position_in-in-Some-child_and_word.ensures))
 
 pub returns-then-state-eq-ROOT_STATE_IDX-2-clause-once :
     goal.returns-then-state-eq-ROOT_STATE_IDX-2-clause-once
 returns-then-state-eq-ROOT_STATE_IDX-2-clause-once g c =
     let seen = seen_by c.self.view_is c.self.invariant in
     let none = seen_child seen _ c.args.state c.index-states-state.is c.requires c.args.label ∙ c.in_default-child_and_word.ensures in
-    look_root _ seen.stored.valid c.args.state c.args.label c.requires none c.if-state-eq-ROOT_STATE_IDX-2.true c.output_pos.result
+    turn-root _ _ _ _ _ (seen_machine seen) c.args.state c.args.label c.requires none c.if-state-eq-ROOT_STATE_IDX-2.true c.output_pos.result
 
 pub returns-then-state-eq-ROOT_STATE_IDX-2-clause-look :
     goal.returns-then-state-eq-ROOT_STATE_IDX-2-clause-look
@@ -78,7 +79,7 @@ link-link-requires g c left =
 -- the root is a state
 pub output_pos-requires-then-link-eq-DEAD_STATE_IDX :
     goal.output_pos-requires-then-link-eq-DEAD_STATE_IDX
-output_pos-requires-then-link-eq-DEAD_STATE_IDX g c = root_state _ (seen_by c.self.view_is c.self.invariant).stored.valid
+output_pos-requires-then-link-eq-DEAD_STATE_IDX g c = Reached-root _ _ _ _ _ (seen_machine (seen_by c.self.view_is c.self.invariant))
 
 pub returns-then-link-eq-DEAD_STATE_IDX-clause-once :
     goal.returns-then-link-eq-DEAD_STATE_IDX-clause-once
@@ -86,7 +87,7 @@ returns-then-link-eq-DEAD_STATE_IDX-clause-once g c =
     let seen = seen_by c.self.view_is c.self.invariant in
     let none = seen_child seen _ c.args.state c.index-states-state.is c.requires c.args.label ∙ c.in_default-child_and_word.ensures in
     let link = seen_link seen _ c.args.state c.index-states-state.is c.requires ∙ (sym c.link-link.ensures ∙ c.if-link-eq-DEAD_STATE_IDX.true) in
-    look_dead _ seen.stored.valid c.args.state c.args.label c.requires none c.if-state-eq-ROOT_STATE_IDX-2.false link c.output_pos-then-link-eq-DEAD_STATE_IDX.result
+    turn-dead _ _ _ _ _ (seen_machine seen) c.args.state c.args.label c.requires none c.if-state-eq-ROOT_STATE_IDX-2.false link c.output_pos-then-link-eq-DEAD_STATE_IDX.result
 
 pub returns-then-link-eq-DEAD_STATE_IDX-clause-look :
     goal.returns-then-link-eq-DEAD_STATE_IDX-clause-look
@@ -104,7 +105,7 @@ returns-clause-once g c =
       | else-are_leftmost-via-then-are_leftmost+else-link-eq-DEAD_STATE_IDX w ↦ w.if-link-eq-DEAD_STATE_IDX.false
       | else-are_leftmost-via-else-are_leftmost w ↦ seen_alive seen (sym c.are_leftmost.ensures ∙ w.if-are_leftmost.false) c.args.state to c.requires c.if-state-eq-ROOT_STATE_IDX-2.false link
     ] in
-    look_fail _ seen.stored.valid c.args.state c.args.label to c.requires none c.if-state-eq-ROOT_STATE_IDX-2.false link live
+    turn-link _ _ _ _ _ (seen_machine seen) c.args.state c.args.label to c.requires none c.if-state-eq-ROOT_STATE_IDX-2.false link live
 
 pub returns-clause-look : goal.returns-clause-look
 returns-clause-look g c = gives_label c.args.self.now c.args.state c.args.label (Fail c.link-link.result) (returns-clause-once g c)

@@ -1,3 +1,4 @@
 pub mod OutputLists
 pub mod Xor
 pub mod Refusals
+pub mod Failures

@@ -1,4 +1,3 @@
-pub mod Failures
 pub mod FlagCounts
 pub mod FreeListLaws
 pub mod PlaceStart

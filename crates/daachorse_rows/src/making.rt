@@ -1,7 +1,7 @@
 //! How rows are made: which states have one, and what is written into it.
 //!
 //! The states are those nearest to the root, breadth-first.
-#![tactic(auto, using(crate::proofs::Failures::failures))]
+#![tactic(auto, using(daachorse_core::proofs::Failures::failures))]
 
 ghost use Rattle.std.specs.Prelude.{◌≡◌, ◌⊎◌, ◌*◌, ◌+◌, ◌/◌, ◌<◌, ◌≤◌, ◌^◌, ℕ, [], length, map, slice_index, IfOk, IfSome, MatchOption, OnOk, None};
 ghost use Rattle.daachorse_rows.specs.Rows.{AreChosen, AreLabels, AreShallow, AreSlots, AreStepped, AreTooMany, AreWritten, EndsInRow, GoesOn, HaveRows, IsChoice, IsEntry, IsRound, IsSlot, IsSlotOf, Stands, StepLeads, StepsAs, row_places, stands_by};

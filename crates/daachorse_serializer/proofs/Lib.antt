@@ -1,4 +1,3 @@
-pub mod Failures
 pub mod Items
 pub mod Sizes
 pub mod Reading

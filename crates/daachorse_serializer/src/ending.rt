@@ -1,6 +1,6 @@
 //! What the written forms of both automata end with: the outputs, how it searches, the number of
 //! states, and the prefilter, if there is one.
-#![tactic(auto, using(crate::proofs::Failures::failures))]
+#![tactic(auto, using(daachorse_core::proofs::Failures::failures))]
 
 ghost use Rattle.std.specs.Prelude.{◌≡◌, ◌+◌, ◌-◌, ◌<◌, ◌^◌, ◌++◌, length, min, vec_len, IfErr, IfOk, IfSome, OnOk};
 ghost use Rattle.daachorse_core.specs.Refusals.{IsOutOfMemory};

@@ -1,5 +1,5 @@
 //! Written forms of values: the bytes of a value, and the value that is read back from bytes.
-#![tactic(auto, using(crate::proofs::Failures::failures))]
+#![tactic(auto, using(daachorse_core::proofs::Failures::failures))]
 
 ghost use Rattle.std.specs.Prelude.{◌≡◌, ℕ, ℤ, ◌+◌, ◌-◌, ◌*◌, ◌<◌, ◌≤◌, ◌^◌, ◌++◌, ◌∷◌, [], List, Option, Some, None, length, take, drop, min, IfErr, IfSome, IfOk, OnOk, MatchResult, FitsSigned, All, vec_len, refl};
 ghost use Rattle.std.specs.List.{flat_map};

@@ -1,5 +1,5 @@
 //! The elements of a double array: which are used, and in which order the vacant ones are tried.
-#![tactic(auto, using(crate::proofs::Failures::failures))]
+#![tactic(auto, using(daachorse_core::proofs::Failures::failures))]
 
 ghost use Rattle.std.specs.Prelude.{◌≡◌, ℕ, ◌+◌, ◌*◌, ◌<◌, ◌≤◌, ◌^◌, ◌⊎◌, ◌||◌, length, bit_xor, nat_eq, slice_set, true, false, Some, None, MatchOption, IfOk, IfErr, OnOk};
 ghost use Rattle.std.specs.Int.{IsPowerOfTwo};

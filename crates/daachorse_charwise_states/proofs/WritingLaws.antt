@@ -13,36 +13,6 @@ use Rattle.daachorse_charwise_states.specs.Elements.{base_in, check_in, fail_in,
 use Rattle.daachorse_charwise_states.specs.Packing.{element_at}
 use Rattle.daachorse_charwise_states.specs.Writing.{AreGroupsApart, DifferInChecks, HasWritten, HaveCheck, HaveChecks, place_of}
 
--- ---- one state more is written
-module _ (m n elements : ℕ) (idx bases fails positions : List ℕ) (old new : List State) (places : HavePlaces idx n elements) (was : HasWritten m idx bases fails positions old new) where
-  -- the dead state is passed over
-  pub placed_dead : m ≡ 1 → HasWritten (m + 1) idx bases fails positions old new
-  placed_dead dead = record {
-    size = was.size;
-    base = λ t less alive. was.base t (before t less alive) alive;
-    check = λ t less alive. was.check t (before t less alive) alive;
-    fail = λ t less alive. was.fail t (before t less alive) alive;
-    output = λ t less alive. was.output t (before t less alive) alive;
-    others = λ i none. was.others i (λ t less alive. none t (omega (arith, less)) alive);
-  }
-    where
-      before : (t : ℕ) → t < m + 1 → t ≢ 1 → t < m
-      before t less alive = omega (arith, less, alive, dead)
-
-  module _ (e : State) (inside : m < n) (fits : slice_index idx m < length new) (here : m ≢ 1) where
-    pub placed_more : base_in e ≡ slice_index bases m → check_in e ≡ 1 → fail_in e ≡ slice_index idx (slice_index fails m) → output_in e ≡ slice_index positions m
-        → HasWritten (m + 1) idx bases fails positions old (set new (slice_index idx m) e)
-    placed_more base check fail output = record {
-      size = length-set new (slice_index idx m) e ∙ was.size;
-      base = written_at vacant m n elements idx new places e inside fits here base_in (slice_index bases) was.base base;
-      check = written_at vacant m n elements idx new places e inside fits here check_in (λ t. 1) was.check check;
-      fail = written_at vacant m n elements idx new places e inside fits here fail_in (λ t. slice_index idx (slice_index fails t)) was.fail fail;
-      output = written_at vacant m n elements idx new places e inside fits here output_in (slice_index positions) was.output output;
-      others = λ i none.
-          get_or-set_other new (slice_index idx m) i e vacant (λ same. none m (omega arith) here (sym same))
-          ∙ was.others i (λ t less alive. none t (omega (arith, less)) alive);
-    }
-
 -- ---- one child more has the check
 
 differ-more : (old mid new : List State) → DifferInChecks old mid → DifferInChecks mid new → DifferInChecks old new

@@ -1,7 +1,6 @@
 -- What was written one after another are the elements that hold the trie.
 use Rattle.std.proofs.Common.{◌≡◌, ◌≢◌, ℕ, ◌<◌, false, List, ◌++◌, length, take, drop, replicate, ◌∙◌, ap, subst, sym, inl, inr, arith}
 use Rattle.std.specs.Prelude.{slice_index}
-use Rattle.std.proofs.Math.Seq.{take-append_seam}
 use Rattle.std.proofs.lemmas.Bool.{cases_lt}
 use Rattle.std.proofs.lemmas.List.{get_or-replicate, get_or_past, length-replicate}
 use Rattle.daachorse_placement.specs.declared.build_helper.SiblingGroup.{SiblingGroup}
@@ -20,10 +19,6 @@ fresh n e es is all i = elim (cases_lt i n) [
   | inl low ↦ ap (λ x. element_at x i) all ∙ (get_or-replicate n i e vacant low ∙ is)
   | inr past ↦ ap (λ x. element_at x i) all ∙ get_or_past (replicate n e) i vacant (omega (arith, past, length-replicate n e))
 ]
-
--- a slice of a whole list that was written to is the list
-pub written_back : (new old : List State) (n : ℕ) → n ≡ length new → take n (new ++ drop (length new) old) ≡ new
-written_back new old n e = ap (λ k. take k (new ++ drop (length new) old)) e ∙ take-append_seam new (drop (length new) old)
 
 module _ {A : Type 0} {code : ℕ → ℕ} {block : ℕ} {gs : List (SiblingGroup A)} {l : Layout} {edges : List (List (ℕ × ℕ))} (q : AreSettled code block false gs l edges) where
   -- a child is a state, and not the dead one

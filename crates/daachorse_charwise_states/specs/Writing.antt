@@ -3,17 +3,13 @@ use Rattle.std.specs.Prelude.{◌≡◌, ◌≢◌, ℕ, ◌<◌, List, length, 
 use Rattle.daachorse_placement.specs.declared.build_helper.SiblingGroup.{SiblingGroup}
 use Rattle.daachorse_placement.specs.Placement.{child_id, children_of, group_parent}
 use Rattle.daachorse_charwise_states.specs.declared.state.State.{State}
-use Rattle.daachorse_charwise_states.specs.Elements.{base_in, check_in, fail_in, output_in}
+use Rattle.daachorse_charwise_states.specs.Elements.{base_in, check_in, fail_in, output_in, vacant}
 use Rattle.daachorse_charwise_states.specs.Packing.{element_at}
+use Rattle.daachorse_patterns.specs.Settled.{AreWritten}
 
 -- the first m states but the dead one are written, with the dead state for a check, and nothing else
-pub record HasWritten (m : ℕ) (idx bases fails positions : List ℕ) (old new : List State) : Type 0 where
-  pub size : length new ≡ length old
-  pub base : (t : ℕ) → t < m → t ≢ 1 → base_in (element_at new (slice_index idx t)) ≡ slice_index bases t
-  pub check : (t : ℕ) → t < m → t ≢ 1 → check_in (element_at new (slice_index idx t)) ≡ 1
-  pub fail : (t : ℕ) → t < m → t ≢ 1 → fail_in (element_at new (slice_index idx t)) ≡ slice_index idx (slice_index fails t)
-  pub output : (t : ℕ) → t < m → t ≢ 1 → output_in (element_at new (slice_index idx t)) ≡ slice_index positions t
-  pub others : (i : ℕ) → ((t : ℕ) → t < m → t ≢ 1 → slice_index idx t ≢ i) → element_at new i ≡ element_at old i
+abbrev pub HasWritten : ℕ → List ℕ → List ℕ → List ℕ → List ℕ → List State → List State → Type 0
+HasWritten m idx bases = AreWritten vacant base_in check_in fail_in output_in m idx bases (λ t. 1)
 
 -- no element differs but in its check
 pub record DifferInChecks (old new : List State) : Type 0 where

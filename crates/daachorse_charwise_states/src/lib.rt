@@ -5,8 +5,6 @@
 #![tactic(auto)]
 
 pub mod edges;
-mod filters;
-mod folded;
 pub mod for_rows;
 pub mod mapper;
 mod packing;

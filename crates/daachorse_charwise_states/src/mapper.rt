@@ -1,6 +1,6 @@
 //! Codes of characters: small numbers, the smallest for the most frequent characters.
 
-ghost use Rattle.std.specs.Prelude.{◌≡◌, ◌≢◌, ℕ, ◌<◌, ◌^◌, ◌==◌, ◌++◌, max, length, slice_get, slice_index, true, false, IfOk, IfErr, MatchOption};
+ghost use Rattle.std.specs.Prelude.{◌≡◌, ◌≢◌, ◌↔◌, ℕ, ◌<◌, ◌^◌, ◌==◌, ◌++◌, IsTrue, max, length, slice_get, slice_index, IfOk, IfErr, MatchOption};
 ghost use Rattle.std.specs.Int.{IsNextPowerOfTwo};
 ghost use Rattle.std.specs.Cmp.Lexicographic.{pointwise};
 ghost use Rattle.std.specs.Cmp.Rules.{comparing, hashing};
@@ -121,8 +121,7 @@ impl<A: Allocator> CodeMapper<A> {
     /// # Errors
     /// Out of memory.
     pub fn is_coding<B: Allocator>(&self, alloc: B) -> Result<bool>
-        ensures yes { IfOk result (λ right. right ≡ true → IsCoding self.now) }
-        ensures no { IfOk result (λ right. right ≡ false → IsCoding self.now → ⊥) }
+        ensures ok { IfOk result (λ right. IsTrue right ↔ IsCoding self.now) }
         ensures err { IfErr result IsOutOfMemory }
     {
         are_codes(alloc, &self.table, self.alphabet_size)
@@ -201,8 +200,7 @@ impl<A: Allocator> SerializableVec for CodeMapper<A> {
 
 /// Whether the codes of a table are distinct and below the alphabet size.
 fn are_codes<A: Allocator>(alloc: A, table: &[u32], alphabet_size: u32) -> Result<bool>
-    ensures yes { IfOk result (λ right. right ≡ true → IsCoding (coding_from (table.now, alphabet_size))) }
-    ensures no { IfOk result (λ right. right ≡ false → IsCoding (coding_from (table.now, alphabet_size)) → ⊥) }
+    ensures ok { IfOk result (λ right. IsTrue right ↔ IsCoding (coding_from (table.now, alphabet_size))) }
     ensures err { IfErr result IsOutOfMemory }
 {
     let mut taken = vec![in alloc; false; alphabet_size as usize]?;

@@ -23,7 +23,6 @@ use daachorse_core::DEAD_STATE_IDX;
 use daachorse_core::errors::Result;
 use daachorse_placement::build_helper::{BuildHelper, Profile, SiblingGroup};
 use std::alloc::Allocator;
-use std::num::NonZeroU32;
 
 /// The elements that hold a builder's trie, whose links and outputs are built, in blocks of
 /// `block_len`. The groups of siblings that the profile counted most are placed first.
@@ -116,24 +115,8 @@ fn place_states<L: EdgeLabel, V: Copy, A: Allocator>(
         }
         let fail = idx_map[state.fail() as usize];
         let idx = idx_map[id] as usize;
-        elements[idx] = element_of(bases[id], fail, state.output_pos());
+        elements[idx] = State::new(bases[id], DEAD_STATE_IDX, fail, state.output_pos());
     }
-}
-
-/// An element with these parts, and the dead state as its check.
-fn element_of(base: u32, fail: u32, output_pos: Option<NonZeroU32>) -> State
-    ensures base { base_in result ≡ base }
-    ensures check { check_in result ≡ 1 }
-    ensures fail { fail_in result ≡ fail }
-    ensures output { output_in result ≡ number output_pos }
-{
-    let mut element = State::default();
-    if let Some(base) = NonZeroU32::new(base) {
-        element.set_base(base);
-    }
-    element.set_fail(fail);
-    element.set_output_pos(output_pos);
-    element
 }
 
 /// Sets the check of each group's children to their parent's index.

@@ -1,6 +1,6 @@
 //! Rows of the states near the root.
 
-ghost use Rattle.std.specs.Prelude.{◌≡◌, ◌≤◌, false, length, true, IfOk, IfSome, IfErr};
+ghost use Rattle.std.specs.Prelude.{◌≡◌, ◌↔◌, ◌≤◌, IsTrue, length, IfOk, IfSome, IfErr};
 ghost use Rattle.daachorse_core.specs.Refusals.{IsOutOfMemory};
 ghost use Rattle.daachorse_model.specs.declared.MatchKind.TheVariants.{Standard};
 ghost use Rattle.daachorse_rows.specs.Rows.{AreLabels, IsListOf};
@@ -84,8 +84,7 @@ fn list_used<V: Copy, A: Allocator + Copy>(
 
 /// Whether some character with a code has the label.
 fn is_used<V: Copy, A: Allocator>(elements: &Elements<'_, V, A>, label: u32) -> bool
-    ensures yes { result ≡ true → IsUsed elements.now label }
-    ensures no { result ≡ false → IsUsed elements.now label → ⊥ }
+    ensures { IsTrue result ↔ IsUsed elements.now label }
 {
     if label < ASCII {
         return elements.has_code(char::from(label as u8));

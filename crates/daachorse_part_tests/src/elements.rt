@@ -24,18 +24,6 @@ fn an_element_of_bytes_keeps_its_parts(rt: HostRuntime) {
     expect(&rt, element.without_link().fail() == Empty, "the link");
 }
 
-/// An element over characters. A base or a position of 0 stands for none.
-fn character_element(base: u32, check: u32, fail: u32, position: u32) -> CharacterState {
-    let mut element = CharacterState::default();
-    if let Some(base) = NonZeroU32::new(base) {
-        element.set_base(base);
-    }
-    element.set_check(check);
-    element.set_fail(fail);
-    element.set_output_pos(NonZeroU32::new(position));
-    element
-}
-
 /// Whether an element over characters has these parts.
 fn has_character_parts(
     element: &CharacterState,
@@ -54,7 +42,8 @@ fn has_character_parts(
 fn an_element_of_characters_keeps_its_parts(rt: HostRuntime) {
     let vacant = CharacterState::default();
     expect(&rt, has_character_parts(&vacant, 0, 1, 1, 0), "vacant");
-    let element = character_element(0xffff_ffff, 0xffff_fffe, 7, 0x0100_0000);
+    let position = NonZeroU32::new(0x0100_0000);
+    let element = CharacterState::new(0xffff_ffff, 0xffff_fffe, 7, position);
     let same = has_character_parts(&element, 0xffff_ffff, 0xffff_fffe, 7, 0x0100_0000);
     expect(&rt, same, "the parts");
 }
@@ -62,9 +51,9 @@ fn an_element_of_characters_keeps_its_parts(rt: HostRuntime) {
 #[test]
 fn a_child_names_its_parent(rt: HostRuntime) {
     let vacant = CharacterState::default();
-    let child = character_element(0, 0, 0, 0);
+    let child = CharacterState::new(0, 0, 0, None);
     let elements = [vacant, vacant, vacant, vacant, child];
-    let root = character_element(5, 1, 0, 0);
+    let root = CharacterState::new(5, 1, 0, None);
     expect(&rt, root.child(0, 1, &elements) == Some(4), "the child");
     expect(&rt, root.child(2, 1, &elements).is_none(), "another parent");
     expect(&rt, root.child(0, 2, &elements).is_none(), "another code");
@@ -78,7 +67,8 @@ fn elements_have_their_forms(rt: HostRuntime) -> Result<(), Fail> {
     has_form(&rt, alloc, linked, &[101, 0, 0, 0, 7, 0, 0, 0, 98, 2, 0, 0])?;
     let rest = linked.without_link();
     has_form(&rt, alloc, rest, &[101, 0, 0, 0, 98, 2, 0, 0])?;
-    let filled = character_element(0x0123_4567, 0x89ab_cdef, 0x0246_8ace, 5);
+    let position = NonZeroU32::new(5);
+    let filled = CharacterState::new(0x0123_4567, 0x89ab_cdef, 0x0246_8ace, position);
     let form = [
         0x67, 0x45, 0x23, 0x01, 0xef, 0xcd, 0xab, 0x89, 0xce, 0x8a, 0x46, 0x02, 5, 0, 0, 0,
     ];

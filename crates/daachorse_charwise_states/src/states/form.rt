@@ -1,6 +1,6 @@
 //! The written form of the states, with the option and the prefilter of the automaton.
 
-ghost use Rattle.std.specs.Prelude.{◌≡◌, ◌⊎◌, ◌++◌, ◌-◌, ◌^◌, Bool, List, ℕ, Option, Some, true, false, min, IfOk, IfErr};
+ghost use Rattle.std.specs.Prelude.{◌≡◌, ◌↔◌, ◌⊎◌, ◌++◌, ◌-◌, ◌^◌, Bool, List, ℕ, IsTrue, Option, Some, min, IfOk, IfErr};
 ghost use Rattle.daachorse_core.specs.Refusals.{IsOutOfMemory};
 ghost use Rattle.daachorse_checker.specs.Reads.{HasNoParts};
 ghost use Rattle.daachorse_prefilter.specs.Filters.{Filter};
@@ -57,8 +57,7 @@ impl<V: Copy, A: Allocator + Copy> Lists<V, A> {
     /// Whether the lists are an automaton's.
     fn is_valid(&self, alloc: A) -> Result<bool>
         requires { AreCounted (parts_in self.now).0 }
-        ensures yes { IfOk result (λ valid. valid ≡ true → IsValid (parts_in self.now).0) }
-        ensures no { IfOk result (λ valid. valid ≡ false → IsValid (parts_in self.now).0 → ⊥) }
+        ensures ok { IfOk result (λ valid. IsTrue valid ↔ IsValid (parts_in self.now).0) }
         ensures err { IfErr result IsOutOfMemory }
     {
         if !are_grouped(alloc, self.states.as_slice(), &self.mapper)? {

@@ -10,20 +10,20 @@ use Rattle.daachorse_charwise_states.proofs.Taken.{AreTaken, taken_all, taken_le
 use Rattle.daachorse_charwise_states.proofs.mapper.are_codes.Goals.{then-code+else-code-alphabet_size+else-index, else-code}
 use Rattle.daachorse_charwise_states.proofs.mapper.are_codes.Goals as goal
 
-pub returns-then-code-alphabet_size-clause-no : goal.returns-then-code-alphabet_size-clause-no
-returns-then-code-alphabet_size-clause-no g c e =
+pub returns-then-code-alphabet_size-clause-ok : goal.returns-then-code-alphabet_size-clause-ok
+returns-then-code-alphabet_size-clause-ok g c =
     let table = c.args.table.now in let n = c.loop-code.code-index in
     let coding : Coding = coding_from (table, c.args.alphabet_size) in
-    taken_past coding n (slice_index table n) (code_read coding table refl n c.loop-code-test.true c.if-code.true) c.if-code-alphabet_size.true
+    (λ e. absurd (cc), λ right. absurd (taken_past coding n (slice_index table n) (code_read coding table refl n c.loop-code-test.true c.if-code.true) c.if-code-alphabet_size.true right))
 
-pub returns-then-index-clause-no : goal.returns-then-index-clause-no
-returns-then-index-clause-no g c e =
+pub returns-then-index-clause-ok : goal.returns-then-index-clause-ok
+returns-then-index-clause-ok g c =
     let table = c.args.table.now in let n = c.loop-code.code-index in
     let coding : Coding = coding_from (table, c.args.alphabet_size) in
     let so : AreTaken coding n c.loop-code.taken.items = c.loop-code.invariant.taken in
     let inside : slice_index table n < length c.loop-code.taken.items = omega (arith, c.if-code-alphabet_size.false, so.size) in
     let mark = get_or_read c.loop-code.taken.items (slice_index table n) c.index.result.now inside c.index.ensures false in
-    taken_twice coding n (slice_index table n) c.loop-code.taken.items (code_read coding table refl n c.loop-code-test.true c.if-code.true) so (sym mark ∙ c.if-index.true)
+    (λ e. absurd (cc), λ right. absurd (taken_twice coding n (slice_index table n) c.loop-code.taken.items (code_read coding table refl n c.loop-code-test.true c.if-code.true) so (sym mark ∙ c.if-index.true) right))
 
 pub loop-code-preserved : goal.loop-code-preserved
 loop-code-preserved g c =
@@ -48,18 +48,15 @@ loop-code-preserved g c =
       }
     ]
 
-pub returns-clause-yes : goal.returns-clause-yes
-returns-clause-yes g c e =
+pub returns-clause-ok : goal.returns-clause-ok
+returns-clause-ok g c =
     let coding : Coding = coding_from (c.args.table.now, c.args.alphabet_size) in
     let end : c.loop-code.code-index ≡ length c.args.table.now = omega (arith, c.loop-code-test.false, c.loop-code.auto.code-index-end) in
     let P : ℕ → Type 0 = λ n. AreTaken coding n c.loop-code.taken.items in
-    taken_all coding c.loop-code.taken.items (subst P end c.loop-code.invariant.taken)
+    (λ e. taken_all coding c.loop-code.taken.items (subst P end c.loop-code.invariant.taken), λ right. refl)
 
-pub returns-in_err-taken-clause-yes : goal.returns-in_err-taken-clause-yes
-returns-in_err-taken-clause-yes g c = IfOk-from_err c.from_residual.result _ c.from_residual.ensures.0
-
-pub returns-in_err-taken-clause-no : goal.returns-in_err-taken-clause-no
-returns-in_err-taken-clause-no g c = IfOk-from_err c.from_residual.result _ c.from_residual.ensures.0
+pub returns-in_err-taken-clause-ok : goal.returns-in_err-taken-clause-ok
+returns-in_err-taken-clause-ok g c = IfOk-from_err c.from_residual.result _ c.from_residual.ensures.0
 
 pub loop-code-init : goal.loop-code-init
 loop-code-init g c = grind (arith, common_steps)

@@ -1,15 +1,14 @@
 -- Each state is written where no other stands.
 use Rattle.std.proofs.Common.{◌≡◌, ◌<◌, ℕ, length, ◌∙◌, ap, subst, sym, arith}
 use Rattle.std.specs.Prelude.{slice_index}
-use Rattle.daachorse_patterns.proofs.Written.{link_at, position_at}
+use Rattle.daachorse_patterns.proofs.Written.{link_at, placed_dead, placed_more, position_at}
 use Rattle.daachorse_build.specs.Tables.{fails_of, positions_of}
 use Rattle.daachorse_charwise_states.specs.Writing.{HasWritten}
-use Rattle.daachorse_charwise_states.proofs.WritingLaws.{placed_dead, placed_more}
 use Rattle.daachorse_charwise_states.proofs.packing.place_states.Goals as goal
 
 pub loop-id-preserved-then-id : goal.loop-id-preserved-then-id
 loop-id-preserved-then-id g c = record {
-  placed = placed_dead _ _ _ _ _ _ _ _ _ c.requires.places c.loop-id.invariant.placed c.if-id.true;
+  placed = placed_dead c.requires.places c.loop-id.invariant.placed c.if-id.true;
 }
 
 pub bounds-idx_map-fail : goal.bounds-idx_map-fail
@@ -31,11 +30,11 @@ loop-id-preserved g c =
     let link = link_at states i c.index-states-id.result c.loop-id-test.true c.index-states-id.is in
     let position = position_at states i c.index-states-id.result c.loop-id-test.true c.index-states-id.is in
     record {
-      placed = placed_more _ _ _ _ _ _ _ _ _ c.requires.places c.loop-id.invariant.placed c.element_of.result c.loop-id-test.true (omega (arith, inside, c.loop-id.invariant.placed.size)) c.if-id.false
-          c.element_of.ensures.base
-          c.element_of.ensures.check
-          (c.element_of.ensures.fail ∙ ap (λ k. slice_index c.args.idx_map.now k) (c.fail.ensures ∙ sym link))
-          (c.element_of.ensures.output ∙ (c.output_pos.ensures ∙ sym position));
+      placed = placed_more c.requires.places c.loop-id.invariant.placed c.new.result c.loop-id-test.true (omega (arith, inside, c.loop-id.invariant.placed.size)) c.if-id.false
+          c.new.ensures.base
+          c.new.ensures.check
+          (c.new.ensures.fail ∙ ap (λ k. slice_index c.args.idx_map.now k) (c.fail.ensures ∙ sym link))
+          (c.new.ensures.output ∙ (c.output_pos.ensures ∙ sym position));
     }
 
 pub returns : goal.returns

@@ -10,7 +10,8 @@ use Rattle.daachorse_patterns.proofs.Places.{settled-places}
 use Rattle.daachorse_charwise_states.specs.declared.state.State.{State}
 use Rattle.daachorse_charwise_states.specs.Packing.{HoldElements}
 use Rattle.daachorse_charwise_states.specs.Writing.{AreGroupsApart, HasWritten, HaveChecks}
-use Rattle.daachorse_charwise_states.proofs.WrittenLaws.{fresh, settled-apart, settled-ids, settled-inside, settled-parents, written-held, written_back}
+use Rattle.daachorse_patterns.proofs.Written.{written_back}
+use Rattle.daachorse_charwise_states.proofs.WrittenLaws.{fresh, settled-apart, settled-ids, settled-inside, settled-parents, written-held}
 use Rattle.daachorse_charwise_states.proofs.packing.write_states.Goals as goal
 
 pub returns-in_err-elements : goal.returns-in_err-elements

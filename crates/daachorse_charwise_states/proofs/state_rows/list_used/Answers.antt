@@ -1,5 +1,6 @@
 -- A label is listed behind the smaller ones where some character with a code has it.
 use Rattle.std.proofs.Common.{◌≡◌, ℕ, List, sym, subst, arith}
+use Rattle.std.proofs.lemmas.Bool.{iff_false}
 use Rattle.daachorse_rows.specs.Rows.{IsListOf}
 use Rattle.daachorse_rows.proofs.ListedLaws.{IsListOf-none, IsListOf-push, IsListOf-kept}
 use Rattle.daachorse_charwise_states.specs.StateRows.{IsUsed}
@@ -16,8 +17,8 @@ loop-label-preserved g c =
     let used = IsUsed c.args.elements.now in
     let n = c.loop-label.label in
     elim c.if-is_used.branch [
-      | then-is_used+in_ok-push w ↦ IsListOf-push used n c.loop-label.labels.items c.if-is_used.labels w.push.new.self c.loop-label.invariant w.labels-is w.in_ok-push.ensures.items (c.is_used.ensures.yes w.if-is_used.true)
-      | else-is_used w ↦ IsListOf-kept used n c.if-is_used.labels c.loop-label.labels c.loop-label.invariant w.labels-is (c.is_used.ensures.no w.if-is_used.false)
+      | then-is_used+in_ok-push w ↦ IsListOf-push used n c.loop-label.labels.items c.if-is_used.labels w.push.new.self c.loop-label.invariant w.labels-is w.in_ok-push.ensures.items (c.is_used.ensures.0 w.if-is_used.true)
+      | else-is_used w ↦ IsListOf-kept used n c.if-is_used.labels c.loop-label.labels c.loop-label.invariant w.labels-is (iff_false c.is_used.ensures w.if-is_used.false)
     ]
 
 pub returns-clause-ok : goal.returns-clause-ok

@@ -1,5 +1,6 @@
 -- The array is sound exactly where the parts, whose elements may be looked at, are valid.
 use Rattle.std.proofs.Common.{◌≡◌, ◌∙◌, ap}
+use Rattle.std.proofs.lemmas.Bool.{true_from_ne_false}
 use Rattle.daachorse_model.specs.Kinds.{is_leftmost}
 use Rattle.daachorse_checker.proofs.SoundLaws.{sound_told, told_sound}
 use Rattle.daachorse_charwise_states.specs.Edges.{IsLettered, Lettered}
@@ -13,19 +14,14 @@ is_sound-requires-clause-edges g c =
     let lettered : IsLettered c.args.self.now = rw (← c.self.view_is) c.self.invariant in
     record { inside = child_inside c.args.self.now.parts; tell = valid_tells c.args.self.now lettered.letters }
 
-pub returns-clause-yes : goal.returns-clause-yes
-returns-clause-yes g c e =
+pub returns-clause-ok : goal.returns-clause-ok
+returns-clause-ok g c =
     let p = c.args.self.now.parts in
     let lettered : IsLettered c.args.self.now = rw (← c.self.view_is) c.self.invariant in
     let kind : c.is_leftmost-leftmost.result ≡ is_leftmost p.kind = c.is_leftmost-leftmost.ensures ∙ ap (λ (a : Lettered g.row.V.Denot). is_leftmost a.parts.kind) c.self.view_is in
     let outputs : c.self.inside.outputs.now ≡ p.outputs = ap (λ (a : Lettered g.row.V.Denot). a.parts.outputs) c.self.view_is in
     let count : c.self.inside.num_states ≡ p.num_states = ap (λ (a : Lettered g.row.V.Denot). a.parts.num_states) c.self.view_is in
-    record { grouped = c.requires; few = lettered.few; sound = told_sound (machine p) kind outputs count (c.in_ok-valid.ensures.yes e) }
-
-pub returns-clause-no : goal.returns-clause-no
-returns-clause-no g c e valid =
-    let p = c.args.self.now.parts in
-    let kind : c.is_leftmost-leftmost.result ≡ is_leftmost p.kind = c.is_leftmost-leftmost.ensures ∙ ap (λ (a : Lettered g.row.V.Denot). is_leftmost a.parts.kind) c.self.view_is in
-    let outputs : c.self.inside.outputs.now ≡ p.outputs = ap (λ (a : Lettered g.row.V.Denot). a.parts.outputs) c.self.view_is in
-    let count : c.self.inside.num_states ≡ p.num_states = ap (λ (a : Lettered g.row.V.Denot). a.parts.num_states) c.self.view_is in
-    c.in_ok-valid.ensures.no e (sound_told (machine p) kind outputs count valid.sound)
+    let sound = c.in_ok-valid.ensures in (
+      λ e. record { grouped = c.requires; few = lettered.few; sound = told_sound (machine p) kind outputs count (sound.yes e) },
+      λ valid. true_from_ne_false _ (λ e. sound.no e (sound_told (machine p) kind outputs count valid.sound)),
+    )

@@ -1,12 +1,11 @@
 -- What is kept is valid, so that its keys are the texts of the elements with own outputs, and a text is spelled by the UTF-8 of its characters.
-use Rattle.std.proofs.Common.{◌≡◌, ℕ, List, [], ◌∷◌, ◌++◌, length, refl, sym, ap, subst}
+use Rattle.std.proofs.Common.{◌≡◌, ℕ, List, [], ◌∷◌, ◌++◌, refl, sym, ap, subst}
 use Rattle.std.specs.Prelude.{encode_utf8_all, flat_map}
 use Rattle.std.specs.Char.{encode_utf8}
-use Rattle.daachorse_model.specs.Kinds.{is_leftmost}
-use Rattle.daachorse_model.specs.Units.{char_width}
+use Rattle.std.proofs.lemmas.Bool.{true_from_ne_false}
 use Rattle.daachorse_checker.proofs.KeyLaws.{all_from_each, each_from_all}
 use Rattle.daachorse_prefilter.specs.Filters.{PassesKeys}
-use Rattle.daachorse_charwise_states.specs.Parts.{Parts, content, count, machine}
+use Rattle.daachorse_charwise_states.specs.Parts.{Parts, content}
 use Rattle.daachorse_charwise_states.proofs.CharLaws.{child_inside, valid_machine}
 use Rattle.daachorse_charwise_states.proofs.EdgeLaws.{valid_tells}
 use Rattle.daachorse_charwise_states.proofs.states.States.passes.Goals as goal
@@ -25,18 +24,14 @@ passes_all-requires g c = record {
   tree = let right = c.in_ok-elements.ensures.valid.sound.right in record { dead_no_child = right.dead_no_child; one_path = right.one_path };
 }
 
-pub returns-clause-yes : goal.returns-clause-yes
-returns-clause-yes g c e =
-    let p = c.in_ok-elements.elements.parts in
+pub returns-clause-ok : goal.returns-clause-ok
+returns-clause-ok g c =
+    let is = c.in_ok-elements.ensures in
+    let machine = valid_machine c.in_ok-elements.elements.parts is.valid in
     let P : Parts g.row.V.Denot → Type 0 = λ p. PassesKeys encode_utf8_all (content p) c.args.filter.now in
-    subst P c.in_ok-elements.ensures.parts
-    (rw c.in-Some.is
-    (each_from_all char_width (machine p) (is_leftmost p.kind) (count p) (length p.coding.table) (valid_machine p c.in_ok-elements.ensures.valid) encode_utf8 encode_utf8_all spells c.in-Some.filter (c.in_ok-passes.ensures.yes e)))
-
-pub returns-clause-no : goal.returns-clause-no
-returns-clause-no g c e each =
-    let p = c.in_ok-elements.elements.parts in
-    let P : Parts g.row.V.Denot → Type 0 = λ p. PassesKeys encode_utf8_all (content p) c.args.filter.now in
-    let here = subst P (sym c.in_ok-elements.ensures.parts) each in
-    c.in_ok-passes.ensures.no e
-    (all_from_each char_width (machine p) (is_leftmost p.kind) (count p) (length p.coding.table) (valid_machine p c.in_ok-elements.ensures.valid) encode_utf8 encode_utf8_all spells c.in-Some.filter (rw c.in-Some.is at here))
+    let passes = c.in_ok-passes.ensures in (
+      λ e. subst P is.parts (rw c.in-Some.is (each_from_all _ _ _ _ _ machine encode_utf8 encode_utf8_all spells c.in-Some.filter (passes.yes e))),
+      λ each. true_from_ne_false _ (λ e.
+          let here = subst P (sym is.parts) each in
+          passes.no e (all_from_each _ _ _ _ _ machine encode_utf8 encode_utf8_all spells c.in-Some.filter (rw c.in-Some.is at here))),
+    )

@@ -21,8 +21,7 @@ returns-clause-ok g c =
     let kind : c.is_leftmost-leftmost.result ≡ is_leftmost p.kind = c.is_leftmost-leftmost.ensures ∙ ap (λ (q : Parts g.row.V.Denot). is_leftmost q.kind) c.self.view_is in
     let outputs : c.self.inside.outputs.now ≡ p.outputs = ap (λ (q : Parts g.row.V.Denot). q.outputs) c.self.view_is in
     let count : c.self.inside.num_states ≡ p.num_states = ap (λ (q : Parts g.row.V.Denot). q.num_states) c.self.view_is in
-    let sound = c.in_ok-valid.ensures in
-    (
+    let sound = c.in_ok-valid.ensures in (
       λ e. record { grouped = grouped; sound = told_sound (machine p) kind outputs count (sound.yes e) },
       λ valid. true_from_ne_false _ (λ e. sound.no e (sound_told (machine p) kind outputs count valid.sound)),
     )

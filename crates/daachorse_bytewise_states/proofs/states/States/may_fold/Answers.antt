@@ -18,8 +18,7 @@ returns-clause-ok g c =
     let is = c.elements-elements.ensures in
     let machine = valid_machine c.elements-elements.result is.valid in
     let P : Parts g.row.V.Denot → Type 0 = λ p. HasFoldedKeys (content p) in
-    let folded = c.in_ok-folded.ensures in
-    (
+    let folded = c.in_ok-folded.ensures in (
       λ e folds. subst P is.parts (keys-from-units _ _ _ _ _ machine (folded.yes e)),
       λ each. true_from_ne_false _ (λ e. folded.no e (units-from-keys _ _ _ _ _ machine (subst P (sym is.parts) (each (search rules))))),
     )

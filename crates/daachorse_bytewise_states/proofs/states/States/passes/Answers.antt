@@ -23,8 +23,7 @@ returns-clause-ok g c =
     let is = c.elements-elements.ensures in
     let machine = valid_machine c.elements-elements.result is.valid in
     let P : Parts g.row.V.Denot → Type 0 = λ p. PassesKeys (λ w. w) (content p) c.args.filter.now in
-    let passes = c.in_ok-passes.ensures in
-    (
+    let passes = c.in_ok-passes.ensures in (
       λ e. subst P is.parts (rw c.in-Some.is (each_from_all _ _ _ _ _ machine (λ byte. byte ∷ []) (λ w. w) spells c.in-Some.filter (passes.yes e))),
       λ each. true_from_ne_false _ (λ e.
           let here = subst P (sym is.parts) each in

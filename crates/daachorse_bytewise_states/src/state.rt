@@ -1,6 +1,7 @@
 //! One element of the double array, and its written form.
 
-ghost use Rattle.std.specs.Prelude.{◌≡◌, ◌+◌, ◌<◌, ◌^◌, ◌%◌, ◌++◌, IfErr, OnOk, length, slice_index_or};
+ghost use Rattle.std.specs.Prelude.{◌≡◌, ◌+◌, ◌<◌, ◌≤◌, ◌^◌, ◌%◌, ◌++◌, IfErr, OnOk, OnErr, length, slice_index_or};
+ghost use Rattle.daachorse_core.specs.declared.errors.Limit.TheVariants.{OutputPos};
 ghost use Rattle.std.specs.Int.{w32};
 ghost use Rattle.daachorse_core.specs.Outputs.{number};
 ghost use Rattle.daachorse_core.specs.Refusals.{IsOutOfMemory};
@@ -12,7 +13,7 @@ ghost use Rattle.daachorse_bytewise_states.specs.Parts.{child_by, without_link};
 ghost use Rattle.daachorse_bytewise_states.specs.StateForms.{IsStateValue, state_form, state_law, take_state};
 
 use daachorse_core::Empty;
-use daachorse_core::errors::Result;
+use daachorse_core::errors::{DaachorseError, Limit, Result};
 use daachorse_serializer::intpack::{U24, U24nU8};
 use daachorse_serializer::serializer::{Serializable, append};
 use daachorse_serializer::words::{three_words, two_words};
@@ -39,7 +40,7 @@ impl<F: Copy> State<F> {
     /// # Conditions
     /// The position is at most 16,777,215.
     #[inline(always)]
-    pub fn new(base: u32, check: u8, fail: F, output_pos: Option<NonZeroU32>) -> Self
+    pub(crate) fn new(base: u32, check: u8, fail: F, output_pos: Option<NonZeroU32>) -> Self
         requires { number output_pos < 2 ^ 24 }
         ensures base { base_in result ≡ base }
         ensures check { check_in result ≡ check }
@@ -91,6 +92,59 @@ impl<F: Copy> State<F> {
         ensures { result ≡ word_in self.now }
     {
         self.packed.word()
+    }
+
+    /// Sets the base.
+    #[inline(always)]
+    pub fn set_base(&mut self, base: NonZeroU32)
+        ensures base { base_in self.new ≡ base.value }
+        ensures check { check_in self.new ≡ check_in self.old }
+        ensures fail { fail_in self.new ≡ fail_in self.old }
+        ensures output { output_in self.new ≡ output_in self.old }
+    {
+        self.base = base.get();
+    }
+
+    /// Sets the check.
+    #[inline(always)]
+    pub fn set_check(&mut self, check: u8)
+        ensures check { check_in self.new ≡ check }
+        ensures base { base_in self.new ≡ base_in self.old }
+        ensures fail { fail_in self.new ≡ fail_in self.old }
+        ensures output { output_in self.new ≡ output_in self.old }
+    {
+        self.packed.set_b(check);
+    }
+
+    /// Sets the failure link.
+    #[inline(always)]
+    pub fn set_fail(&mut self, fail: F)
+        ensures fail { fail_in self.new ≡ fail }
+        ensures base { base_in self.new ≡ base_in self.old }
+        ensures check { check_in self.new ≡ check_in self.old }
+        ensures output { output_in self.new ≡ output_in self.old }
+    {
+        self.fail = fail;
+    }
+
+    /// Sets the position of the first output.
+    ///
+    /// # Errors
+    /// [`Limit::OutputPos`] if the position is past 16,777,215; the element then stays as it is.
+    #[inline(always)]
+    pub fn set_output_pos(&mut self, position: Option<NonZeroU32>) -> Result<()>
+        ensures output { OnOk result (output_in self.new ≡ number position) }
+        ensures base { base_in self.new ≡ base_in self.old }
+        ensures check { check_in self.new ≡ check_in self.old }
+        ensures fail { fail_in self.new ≡ fail_in self.old }
+        ensures same { OnErr result (self.new ≡ self.old) }
+        ensures err { IfErr result (λ e. (e ≡ DaachorseError.AutomatonScale (record { limit = OutputPos })) × (2 ^ 24 ≤ number position)) }
+    {
+        let Ok(position) = U24::try_from(position.map_or(0, NonZeroU32::get)) else {
+            return Err(DaachorseError::automaton_scale(Limit::OutputPos));
+        };
+        self.packed.set_a(position);
+        Ok(())
     }
 
     /// The index of the element that a byte leads to, if there is one. It reads at most one other

@@ -46,7 +46,7 @@ impl Default for State {
 impl State {
     /// An element with these parts. A base of 0 stands for none.
     #[inline(always)]
-    pub fn new(base: u32, check: u32, fail: u32, output_pos: Option<NonZeroU32>) -> Self
+    pub(crate) fn new(base: u32, check: u32, fail: u32, output_pos: Option<NonZeroU32>) -> Self
         ensures base { base_in result ≡ base }
         ensures check { check_in result ≡ check }
         ensures fail { fail_in result ≡ fail }
@@ -92,6 +92,17 @@ impl State {
         NonZeroU32::new(self.output_pos)
     }
 
+    /// Sets the base.
+    #[inline(always)]
+    pub fn set_base(&mut self, base: NonZeroU32)
+        ensures base { base_in self.new ≡ base.value }
+        ensures check { check_in self.new ≡ check_in self.old }
+        ensures fail { fail_in self.new ≡ fail_in self.old }
+        ensures output { output_in self.new ≡ output_in self.old }
+    {
+        self.base = base.get();
+    }
+
     /// Sets the check.
     #[inline(always)]
     pub fn set_check(&mut self, check: u32)
@@ -101,6 +112,28 @@ impl State {
         ensures output { output_in self.new ≡ output_in self.old }
     {
         self.check = check;
+    }
+
+    /// Sets the failure link.
+    #[inline(always)]
+    pub fn set_fail(&mut self, fail: u32)
+        ensures fail { fail_in self.new ≡ fail }
+        ensures base { base_in self.new ≡ base_in self.old }
+        ensures check { check_in self.new ≡ check_in self.old }
+        ensures output { output_in self.new ≡ output_in self.old }
+    {
+        self.fail = fail;
+    }
+
+    /// Sets the position of the first output.
+    #[inline(always)]
+    pub fn set_output_pos(&mut self, position: Option<NonZeroU32>)
+        ensures output { output_in self.new ≡ number position }
+        ensures base { base_in self.new ≡ base_in self.old }
+        ensures check { check_in self.new ≡ check_in self.old }
+        ensures fail { fail_in self.new ≡ fail_in self.old }
+    {
+        self.output_pos = position.map_or(0, NonZeroU32::get);
     }
 
     /// The index of the element that a code leads to from this one, which is at `index`; `None` if

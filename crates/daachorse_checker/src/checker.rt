@@ -172,8 +172,7 @@ pub fn is_sound<V: Copy, E: Array, A: Allocator + Copy>(
     requires some { 0 < (E.sees array.now).count }
     requires few { (E.sees array.now).count < 2 ^ 32 }
     requires outputs { length outputs.now < 2 ^ 32 }
-    ensures yes { let view = E.sees array.now in IfOk result (λ sound. sound ≡ true → IsSoundArray view.width (machine_of view outputs.now) leftmost view.count num_states) }
-    ensures no { let view = E.sees array.now in IfOk result (λ sound. sound ≡ false → IsSoundArray view.width (machine_of view outputs.now) leftmost view.count num_states → ⊥) }
+    ensures ok { let view = E.sees array.now in IfOk result (λ sound. IsTrue sound ↔ IsSoundArray view.width (machine_of view outputs.now) leftmost view.count num_states) }
     ensures err { IfErr result IsOutOfMemory }
 {
     if !ranges_hold(array, outputs.len()) {

@@ -1,6 +1,6 @@
 //! Whether a prefilter passes at each key of an array.
 
-ghost use Rattle.std.specs.Prelude.{◌≡◌, ◌++◌, ◌<◌, ℕ, List, All, true, false, length, IfOk, IfErr, IfSome, IfNone};
+ghost use Rattle.std.specs.Prelude.{◌++◌, ◌<◌, ℕ, List, All, true, false, length, IfOk, IfErr, IfSome, IfNone, ◌↔◌, IsTrue};
 ghost use Rattle.daachorse_core.specs.Refusals.{IsOutOfMemory};
 ghost use Rattle.daachorse_array.specs.Arrays.{AreGroups, HasEdges};
 ghost use Rattle.daachorse_array.specs.Listing.{has_own, unit_of};
@@ -29,8 +29,7 @@ pub fn passes_all<E: Array, A: Allocator + Copy, B: Allocator>(
     requires edges { HasEdges (E.sees array.now) }
     requires some { 0 < (E.sees array.now).count }
     requires tree { HasOnePath (E.sees array.now).child }
-    ensures yes { let view = E.sees array.now in IfOk result (λ passes. passes ≡ true → PassesAll view.child view.bytes (has_own view.fail view.first) filter.now) }
-    ensures no { let view = E.sees array.now in IfOk result (λ passes. passes ≡ false → PassesAll view.child view.bytes (has_own view.fail view.first) filter.now → ⊥) }
+    ensures ok { let view = E.sees array.now in IfOk result (λ passes. IsTrue passes ↔ PassesAll view.child view.bytes (has_own view.fail view.first) filter.now) }
     ensures err { IfErr result IsOutOfMemory }
 {
     let groups = Siblings::new(alloc, array)?;

@@ -1,6 +1,6 @@
 //! Whether an array's texts are folded: no ASCII capital letter leads to an element.
 
-ghost use Rattle.std.specs.Prelude.{◌≡◌, ◌<◌, ◌↔◌, IsTrue, true, false, IfOk, IfErr};
+ghost use Rattle.std.specs.Prelude.{◌<◌, ◌↔◌, IsTrue, true, false, IfOk, IfErr};
 ghost use Rattle.daachorse_core.specs.Refusals.{IsOutOfMemory};
 ghost use Rattle.daachorse_array.specs.Arrays.{HasEdges};
 ghost use Rattle.daachorse_checker.specs.Folded.{AreFolded, HasFoldedUnits};
@@ -19,8 +19,7 @@ pub fn is_folded<E: Array, A: Allocator + Copy>(alloc: A, array: &E) -> Result<b
     requires edges { HasEdges (E.sees array.now) }
     requires some { 0 < (E.sees array.now).count }
     requires tree { HasOnePath (E.sees array.now).child }
-    ensures yes { IfOk result (λ folded. folded ≡ true → HasFoldedUnits (E.sees array.now).child) }
-    ensures no { IfOk result (λ folded. folded ≡ false → HasFoldedUnits (E.sees array.now).child → ⊥) }
+    ensures ok { IfOk result (λ folded. IsTrue folded ↔ HasFoldedUnits (E.sees array.now).child) }
     ensures err { IfErr result IsOutOfMemory }
 {
     let Some(places) = Places::new(alloc, array)? else {

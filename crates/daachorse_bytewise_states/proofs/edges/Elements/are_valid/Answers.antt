@@ -1,6 +1,5 @@
 -- The array is sound exactly where the parts, whose elements may be looked at, are valid.
 use Rattle.std.proofs.Common.{◌≡◌, ◌∙◌, ap}
-use Rattle.std.proofs.lemmas.Bool.{true_from_ne_false}
 use Rattle.daachorse_model.specs.Kinds.{is_leftmost}
 use Rattle.daachorse_checker.proofs.SoundLaws.{sound_told, told_sound}
 use Rattle.daachorse_bytewise_states.specs.Grouped.{IsGrouped}
@@ -22,6 +21,6 @@ returns-clause-ok g c =
     let outputs : c.self.inside.outputs.now ≡ p.outputs = ap (λ (q : Parts g.row.V.Denot). q.outputs) c.self.view_is in
     let count : c.self.inside.num_states ≡ p.num_states = ap (λ (q : Parts g.row.V.Denot). q.num_states) c.self.view_is in
     let sound = c.in_ok-valid.ensures in (
-      λ e. record { grouped = grouped; sound = told_sound (machine p) kind outputs count (sound.yes e) },
-      λ valid. true_from_ne_false _ (λ e. sound.no e (sound_told (machine p) kind outputs count valid.sound)),
+      λ e. record { grouped = grouped; sound = told_sound (machine p) kind outputs count (sound.ok.0 e) },
+      λ valid. sound.ok.1 (sound_told (machine p) kind outputs count valid.sound),
     )

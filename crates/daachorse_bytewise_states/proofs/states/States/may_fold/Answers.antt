@@ -1,6 +1,5 @@
 -- What is stored is a right machine, so that its keys are folded just where the bytes that lead to its elements are.
 use Rattle.std.proofs.Common.{sym, subst, rules}
-use Rattle.std.proofs.lemmas.Bool.{true_from_ne_false}
 use Rattle.daachorse_checker.specs.Folded.{HasFoldedKeys}
 use Rattle.daachorse_checker.proofs.FoldedKeys.{keys-from-units, units-from-keys}
 use Rattle.daachorse_bytewise_states.specs.Parts.{Parts, content}
@@ -19,6 +18,6 @@ returns-clause-ok g c =
     let machine = valid_machine c.elements-elements.result is.valid in
     let P : Parts g.row.V.Denot → Type 0 = λ p. HasFoldedKeys (content p) in
     let folded = c.in_ok-folded.ensures in (
-      λ e folds. subst P is.parts (keys-from-units _ _ _ _ _ machine (folded.yes e)),
-      λ each. true_from_ne_false _ (λ e. folded.no e (units-from-keys _ _ _ _ _ machine (subst P (sym is.parts) (each (search rules))))),
+      λ e folds. subst P is.parts (keys-from-units _ _ _ _ _ machine (folded.ok.0 e)),
+      λ each. folded.ok.1 (units-from-keys _ _ _ _ _ machine (subst P (sym is.parts) (each (search rules)))),
     )

@@ -1,7 +1,6 @@
 -- What is stored is valid, so that its keys are the texts of the elements with own outputs, and a byte spells itself.
 use Rattle.std.proofs.Common.{◌≡◌, ℕ, List, [], ◌∷◌, refl, sym, ap, subst}
 use Rattle.std.specs.Prelude.{flat_map}
-use Rattle.std.proofs.lemmas.Bool.{true_from_ne_false}
 use Rattle.daachorse_checker.proofs.KeyLaws.{all_from_each, each_from_all}
 use Rattle.daachorse_prefilter.specs.Filters.{PassesKeys}
 use Rattle.daachorse_bytewise_states.specs.Parts.{Parts, content}
@@ -24,8 +23,8 @@ returns-clause-ok g c =
     let machine = valid_machine c.elements-elements.result is.valid in
     let P : Parts g.row.V.Denot → Type 0 = λ p. PassesKeys (λ w. w) (content p) c.args.filter.now in
     let passes = c.in_ok-passes.ensures in (
-      λ e. subst P is.parts (rw c.in-Some.is (each_from_all _ _ _ _ _ machine (λ byte. byte ∷ []) (λ w. w) spells c.in-Some.filter (passes.yes e))),
-      λ each. true_from_ne_false _ (λ e.
+      λ e. subst P is.parts (rw c.in-Some.is (each_from_all _ _ _ _ _ machine (λ byte. byte ∷ []) (λ w. w) spells c.in-Some.filter (passes.ok.0 e))),
+      λ each.
           let here = subst P (sym is.parts) each in
-          passes.no e (all_from_each _ _ _ _ _ machine (λ byte. byte ∷ []) (λ w. w) spells c.in-Some.filter (rw c.in-Some.is at here))),
+          passes.ok.1 (all_from_each _ _ _ _ _ machine (λ byte. byte ∷ []) (λ w. w) spells c.in-Some.filter (rw c.in-Some.is at here)),
     )

@@ -2,7 +2,6 @@
 use Rattle.std.proofs.Common.{◌≡◌, ℕ, List, [], ◌∷◌, ◌++◌, refl, sym, ap, subst}
 use Rattle.std.specs.Prelude.{encode_utf8_all, flat_map}
 use Rattle.std.specs.Char.{encode_utf8}
-use Rattle.std.proofs.lemmas.Bool.{true_from_ne_false}
 use Rattle.daachorse_checker.proofs.KeyLaws.{all_from_each, each_from_all}
 use Rattle.daachorse_prefilter.specs.Filters.{PassesKeys}
 use Rattle.daachorse_charwise_states.specs.Parts.{Parts, content}
@@ -30,8 +29,8 @@ returns-clause-ok g c =
     let machine = valid_machine c.in_ok-elements.elements.parts is.valid in
     let P : Parts g.row.V.Denot → Type 0 = λ p. PassesKeys encode_utf8_all (content p) c.args.filter.now in
     let passes = c.in_ok-passes.ensures in (
-      λ e. subst P is.parts (rw c.in-Some.is (each_from_all _ _ _ _ _ machine encode_utf8 encode_utf8_all spells c.in-Some.filter (passes.yes e))),
-      λ each. true_from_ne_false _ (λ e.
+      λ e. subst P is.parts (rw c.in-Some.is (each_from_all _ _ _ _ _ machine encode_utf8 encode_utf8_all spells c.in-Some.filter (passes.ok.0 e))),
+      λ each.
           let here = subst P (sym is.parts) each in
-          passes.no e (all_from_each _ _ _ _ _ machine encode_utf8 encode_utf8_all spells c.in-Some.filter (rw c.in-Some.is at here))),
+          passes.ok.1 (all_from_each _ _ _ _ _ machine encode_utf8 encode_utf8_all spells c.in-Some.filter (rw c.in-Some.is at here)),
     )

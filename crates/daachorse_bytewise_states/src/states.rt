@@ -195,6 +195,7 @@ impl<V: Copy, A: Allocator> States<V, A> {
         requires { self.now.kind ≡ Standard }
         ensures { result ≡ self.entry.now }
     {
+        prove!(self.kind.is_standard());
         View::new(
             self.kind,
             self.standard.as_slice(),
@@ -211,6 +212,7 @@ impl<V: Copy, A: Allocator> States<V, A> {
         requires { self.now.kind ≢ Standard }
         ensures { result ≡ self.entry.now }
     {
+        prove!(self.kind.is_leftmost());
         View::new(
             self.kind,
             self.leftmost.as_slice(),

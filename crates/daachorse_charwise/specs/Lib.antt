@@ -22,6 +22,7 @@ pub use Rattle.daachorse_search.specs.LeftmostSearches
 pub use Rattle.daachorse_search.specs.Matches
 pub use Rattle.daachorse_haystack.specs.Readings
 pub use Rattle.daachorse_search.specs.Searches
+pub use Rattle.daachorse_search.specs.SearchViews
 pub use Rattle.daachorse_search.specs.Stepwise
 pub use Rattle.daachorse_serializer.specs.Forms
 pub use Rattle.daachorse_serializer.specs.Laws

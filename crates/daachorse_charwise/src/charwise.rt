@@ -161,6 +161,7 @@ impl<V: Copy, A: Allocator + Copy> CharwiseDoubleArrayAhoCorasick<V, A> {
         ensures unchanged { OnErr result (self.new ≡ self.old) }
         ensures err { IfErr result IsOutOfMemory }
     {
+        prove!(self.match_kind().is_standard());
         let depths = self.states.depths(*self.depths.allocator())?;
         self.depths = depths;
         Ok(())

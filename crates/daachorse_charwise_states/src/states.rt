@@ -148,6 +148,7 @@ impl<V: Copy, A: Allocator> States<V, A> {
         requires { self.now.kind ≡ Standard }
         ensures { result ≡ self.entry.now }
     {
+        prove!(self.kind.is_standard());
         self.view()
     }
 
@@ -158,6 +159,7 @@ impl<V: Copy, A: Allocator> States<V, A> {
         requires { self.now.kind ≢ Standard }
         ensures { result ≡ self.entry.now }
     {
+        prove!(self.kind.is_leftmost());
         self.view()
     }
 

@@ -1,4 +1,5 @@
 //! The documents by which states are laid out, and what searches over them read of a trie.
+#![tactic(auto, using(daachorse_core::proofs::Failures::failures))]
 
 ghost use Rattle.std.specs.Prelude.{◌≡◌, [], length, map, IfOk, IfErr};
 ghost use Rattle.daachorse_build.specs.Builders.{states_of};

@@ -1,4 +1,5 @@
 //! The items of an iterator, and the value of each item's index.
+#![tactic(auto, using(daachorse_core::proofs::Failures::failures))]
 
 ghost use Rattle.std.specs.Prelude.{◌≡◌, ◌⊎◌, IfOk, IfErr};
 ghost use Rattle.std.specs.Iterator.{IsFinite};

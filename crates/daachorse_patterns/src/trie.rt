@@ -1,4 +1,5 @@
 //! The trie of patterns with values, its links and its outputs.
+#![tactic(auto, using(daachorse_core::proofs::Failures::failures))]
 
 ghost use Rattle.std.specs.Prelude.{◌≡◌, ◌≤◌, [], None, ◌<◌, IfOk, IfErr, IfSome, IsSomeAnd, OnOk, length};
 ghost use Rattle.daachorse_core.specs.Refusals.{IsOutOfMemory};

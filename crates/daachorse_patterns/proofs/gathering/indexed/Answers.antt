@@ -1,7 +1,6 @@
 -- The next item is paired with the value that its index is converted to, and at the end the items so far are all of them.
 use Rattle.std.proofs.Common.{◌≡◌, ◌<◌, ◌+◌, ◌∷◌, ◌++◌, [], List, length, take, ◌∙◌, ap, sym, subst, arith, length-take}
 use Rattle.std.proofs.lemmas.List.{take_more}
-use Rattle.std.proofs.lemmas.Result.{IfOk-from_err}
 use Rattle.std.proofs.lemmas.Grind.{common_steps}
 use Rattle.daachorse_patterns.specs.Patterns.{AreIndexed}
 use Rattle.daachorse_patterns.proofs.IndexLaws.{AreIndexed-push}
@@ -17,12 +16,6 @@ loop-index-preserved g c =
     let P : List g.row.T.Denot → Type 0 = λ xs. AreIndexed gives 0 xs c.push.new.self.items in
     let Q : List (g.row.T.Denot × g.row.V.Denot) → Type 0 = λ rs. AreIndexed gives 0 (take i ts ++ item ∷ []) rs in
     subst P more (subst Q (sym c.in_ok-push.ensures.items) (AreIndexed-push gives 0 i (take i ts) c.loop-index.pairs.items item c.in-Ok.value c.loop-index.invariant (omega (arith, l, fits)) c.in-Ok.ensures))
-
-pub returns-in_err-pairs-clause-ok : goal.returns-in_err-pairs-clause-ok
-returns-in_err-pairs-clause-ok g c = IfOk-from_err c.from_residual.result _ c.from_residual.ensures.0
-
-pub returns-in_err-push-clause-ok : goal.returns-in_err-push-clause-ok
-returns-in_err-push-clause-ok g c = IfOk-from_err c.from_residual-in_err-push.result _ c.from_residual-in_err-push.ensures.0
 
 pub returns-clause-ok : goal.returns-clause-ok
 returns-clause-ok g c = grind (arith, common_steps)

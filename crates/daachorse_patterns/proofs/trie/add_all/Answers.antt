@@ -1,7 +1,7 @@
 -- Each pattern is registered after those before it; the first that is refused comes after patterns that fit.
 use Rattle.std.proofs.Common.{◌≡◌, ◌<◌, ◌≤◌, ◌+◌, ℕ, List, take, drop, map, ◌∙◌, subst, arith}
 use Rattle.std.specs.Prelude.{All}
-use Rattle.std.proofs.lemmas.Result.{err_from_is_err_and, IfOk-from_err}
+use Rattle.std.proofs.lemmas.Result.{err_from_is_err_and}
 use Rattle.std.proofs.lemmas.List.{take_all}
 use Rattle.std.proofs.lemmas.List.Elements.{All-push}
 use Rattle.std.proofs.lemmas.Grind.{common_steps}
@@ -65,24 +65,6 @@ loop-pattern-preserved g c =
       short = subst Q more (All-push (λ r. size width r.0 ≤ 4294967295) before (text, pair.1) was.short (subst S same c.in_ok-add.ensures.added.short));
       fits = c.in_ok-add.ensures.added.fits was.fits;
     }
-
-pub returns-in_err-labels-clause-ok : goal.returns-in_err-labels-clause-ok
-returns-in_err-labels-clause-ok g c = IfOk-from_err c.from_residual.result _ c.from_residual.ensures.0
-
-pub returns-in_err-labels-clause-fit : goal.returns-in_err-labels-clause-fit
-returns-in_err-labels-clause-fit g c = IfOk-from_err c.from_residual.result _ c.from_residual.ensures.0
-
-pub returns-in_err-labels-clause-fits : goal.returns-in_err-labels-clause-fits
-returns-in_err-labels-clause-fits g c = IfOk-from_err c.from_residual.result _ c.from_residual.ensures.0
-
-pub returns-in_err-add-clause-ok : goal.returns-in_err-add-clause-ok
-returns-in_err-add-clause-ok g c = IfOk-from_err c.from_residual-in_err-add.result _ c.from_residual-in_err-add.ensures.0
-
-pub returns-in_err-add-clause-fit : goal.returns-in_err-add-clause-fit
-returns-in_err-add-clause-fit g c = IfOk-from_err c.from_residual-in_err-add.result _ c.from_residual-in_err-add.ensures.0
-
-pub returns-in_err-add-clause-fits : goal.returns-in_err-add-clause-fits
-returns-in_err-add-clause-fits g c = IfOk-from_err c.from_residual-in_err-add.result _ c.from_residual-in_err-add.ensures.0
 
 pub returns-clause-ok : goal.returns-clause-ok
 returns-clause-ok g c = grind (arith, common_steps)

@@ -2,7 +2,7 @@
 use Rattle.std.proofs.Common.{◌≡◌, ◌≤◌, ℕ, List, length, None, ◌∙◌, ap, subst, arith}
 use Rattle.std.specs.Prelude.{IfSome}
 use Rattle.std.proofs.lemmas.Option.{IfSome_then}
-use Rattle.std.proofs.lemmas.Result.{err_from_is_err_and, IfOk-from_err}
+use Rattle.std.proofs.lemmas.Result.{err_from_is_err_and}
 use Rattle.daachorse_core.proofs.Refusals.{at_error}
 use Rattle.daachorse_model.specs.declared.MatchKind.{MatchKind}
 use Rattle.daachorse_model.specs.Dictionary.{kept_registrations}
@@ -38,47 +38,32 @@ returns-clause-ok g c =
       few = IfSome_then c.args.max_patterns c.in_ok-check_count.ensures.ok (λ n low. omega (arith, low, count));
     }
 
-pub returns-in_err-nfa-clause-ok : goal.returns-in_err-nfa-clause-ok
-returns-in_err-nfa-clause-ok g c = IfOk-from_err c.from_residual.result _ c.from_residual.ensures.0
+pub returns-in_err-add_all-clause-err : goal.returns-in_err-add_all-clause-err
+returns-in_err-add_all-clause-err g c =
+    let p = err_from_is_err_and c.from_residual-in_err-add_all.result c.from_residual-in_err-add_all.ensures.1 in
+    let limits : Limits = record { patterns = c.args.max_patterns; parents = None } in
+    let P : MatchKind → Type 0 = λ k. IsRefusalWithin g.L.EdgeLabel.width limits k (texts_of g.P.Pattern.units c.args.patterns.now) c.in_err-add_all.field-0.0 in
+    rw (p.1, p.2) (subst P c.in_ok-nfa.ensures.kind (c.in_err-add_all.ensures.err limits))
 
-pub returns-in_err-add_all : goal.returns-in_err-add_all
-returns-in_err-add_all g c = record {
-  err =
-      let p = err_from_is_err_and c.from_residual-in_err-add_all.result c.from_residual-in_err-add_all.ensures.1 in
-      let limits : Limits = record { patterns = c.args.max_patterns; parents = None } in
-      let P : MatchKind → Type 0 = λ k. IsRefusalWithin g.L.EdgeLabel.width limits k (texts_of g.P.Pattern.units c.args.patterns.now) c.in_err-add_all.field-0.0 in
-      rw (p.1, p.2) (subst P c.in_ok-nfa.ensures.kind (c.in_err-add_all.ensures.err limits));
-  ok = IfOk-from_err c.from_residual-in_err-add_all.result _ c.from_residual-in_err-add_all.ensures.0;
-}
+pub returns-in_err-check_count-clause-err : goal.returns-in_err-check_count-clause-err
+returns-in_err-check_count-clause-err g c =
+    let cmp = g.L.Ord.cmp in let unit = g.L.EdgeLabel.unit in let width = g.L.EdgeLabel.width in
+    let rs : List (List ℕ × g.row.V.Denot) = texts_of g.P.Pattern.units c.args.patterns.now in
+    let added = c.in_ok-add_all.ensures in let old = c.in_ok-nfa.ensures.kind in
+    let count : c.num_patterns.result ≡ length (kept_registrations c.args.kind rs) = c.num_patterns.ensures ∙ HasTexts-count cmp unit width c.add_all.new.nfa rs added.ok ∙ ap (λ k. length (kept_registrations k rs)) (added.kind ∙ old) in
+    let F : MatchKind → Type 0 = λ k. Fit width k rs in
+    at_error c.from_residual-in_err-check_count.result _ _ c.from_residual-in_err-check_count.ensures.1 (count_refused width (record { patterns = c.args.max_patterns; parents = None }) c.args.kind rs c.num_patterns.result c.in_err-check_count.field-0.0 count (subst F old added.fit) c.in_err-check_count.ensures.err)
 
-pub returns-in_err-check_count : goal.returns-in_err-check_count
-returns-in_err-check_count g c = record {
-  err =
-      let cmp = g.L.Ord.cmp in let unit = g.L.EdgeLabel.unit in let width = g.L.EdgeLabel.width in
-      let rs : List (List ℕ × g.row.V.Denot) = texts_of g.P.Pattern.units c.args.patterns.now in
-      let added = c.in_ok-add_all.ensures in let old = c.in_ok-nfa.ensures.kind in
-      let count : c.num_patterns.result ≡ length (kept_registrations c.args.kind rs) = c.num_patterns.ensures ∙ HasTexts-count cmp unit width c.add_all.new.nfa rs added.ok ∙ ap (λ k. length (kept_registrations k rs)) (added.kind ∙ old) in
-      let F : MatchKind → Type 0 = λ k. Fit width k rs in
-      at_error c.from_residual-in_err-check_count.result _ _ c.from_residual-in_err-check_count.ensures.1 (count_refused width (record { patterns = c.args.max_patterns; parents = None }) c.args.kind rs c.num_patterns.result c.in_err-check_count.field-0.0 count (subst F old added.fit) c.in_err-check_count.ensures.err);
-  ok = IfOk-from_err c.from_residual-in_err-check_count.result _ c.from_residual-in_err-check_count.ensures.0;
-}
-
-pub returns-in_err-order-clause-ok : goal.returns-in_err-order-clause-ok
-returns-in_err-order-clause-ok g c = IfOk-from_err c.from_residual-in_err-order.result _ c.from_residual-in_err-order.ensures.0
-
-pub returns-in_err-build_outputs : goal.returns-in_err-build_outputs
-returns-in_err-build_outputs g c = record {
-  err =
-      let cmp = g.L.Ord.cmp in let unit = g.L.EdgeLabel.unit in let width = g.L.EdgeLabel.width in
-      let rs : List (List ℕ × g.row.V.Denot) = texts_of g.P.Pattern.units c.args.patterns.now in
-      let added = c.in_ok-add_all.ensures in let old = c.in_ok-nfa.ensures.kind in
-      let count : c.num_patterns.result ≡ length (kept_registrations c.args.kind rs) = c.num_patterns.ensures ∙ HasTexts-count cmp unit width c.add_all.new.nfa rs added.ok ∙ ap (λ k. length (kept_registrations k rs)) (added.kind ∙ old) in
-      let F : MatchKind → Type 0 = λ k. Fit width k rs in
-      let few : IfSome c.args.max_patterns (λ n. length (kept_registrations c.args.kind rs) ≤ n) = IfSome_then c.args.max_patterns c.in_ok-check_count.ensures.ok (λ n low. omega (arith, low, count)) in
-      let linked = c.in_ok-order.ensures in let b = c.build_links.new.nfa in
-      let texts = HasTexts-kept cmp unit width c.add_all.new.nfa b rs linked.kept added.ok in
-      at_error c.from_residual-in_err-build_outputs.result _ _ c.from_residual-in_err-build_outputs.ensures.1 (outputs_refused width c.args.max_patterns None c.args.kind rs c.requires few (subst F old added.fit) c.in_err-build_outputs.field-0.0 _
-      (λ passed. let many = passed texts.labels texts.registered in omega (arith, many, ap (λ xs. length (kept_registrations (kind_of b) xs)) texts.units, ap (λ k. length (kept_registrations k rs)) (linked.kept.kind ∙ (added.kind ∙ old))))
-      c.in_err-build_outputs.ensures.err);
-  ok = IfOk-from_err c.from_residual-in_err-build_outputs.result _ c.from_residual-in_err-build_outputs.ensures.0;
-}
+pub returns-in_err-build_outputs-clause-err : goal.returns-in_err-build_outputs-clause-err
+returns-in_err-build_outputs-clause-err g c =
+    let cmp = g.L.Ord.cmp in let unit = g.L.EdgeLabel.unit in let width = g.L.EdgeLabel.width in
+    let rs : List (List ℕ × g.row.V.Denot) = texts_of g.P.Pattern.units c.args.patterns.now in
+    let added = c.in_ok-add_all.ensures in let old = c.in_ok-nfa.ensures.kind in
+    let count : c.num_patterns.result ≡ length (kept_registrations c.args.kind rs) = c.num_patterns.ensures ∙ HasTexts-count cmp unit width c.add_all.new.nfa rs added.ok ∙ ap (λ k. length (kept_registrations k rs)) (added.kind ∙ old) in
+    let F : MatchKind → Type 0 = λ k. Fit width k rs in
+    let few : IfSome c.args.max_patterns (λ n. length (kept_registrations c.args.kind rs) ≤ n) = IfSome_then c.args.max_patterns c.in_ok-check_count.ensures.ok (λ n low. omega (arith, low, count)) in
+    let linked = c.in_ok-order.ensures in let b = c.build_links.new.nfa in
+    let texts = HasTexts-kept cmp unit width c.add_all.new.nfa b rs linked.kept added.ok in
+    at_error c.from_residual-in_err-build_outputs.result _ _ c.from_residual-in_err-build_outputs.ensures.1 (outputs_refused width c.args.max_patterns None c.args.kind rs c.requires few (subst F old added.fit) c.in_err-build_outputs.field-0.0 _
+    (λ passed. let many = passed texts.labels texts.registered in omega (arith, many, ap (λ xs. length (kept_registrations (kind_of b) xs)) texts.units, ap (λ k. length (kept_registrations k rs)) (linked.kept.kind ∙ (added.kind ∙ old))))
+    c.in_err-build_outputs.ensures.err)

@@ -3,12 +3,8 @@ use Rattle.std.proofs.Common.{◌≡◌, false, true, length, map, vec_len, sym,
 use Rattle.std.specs.Prelude.{◌==◌}
 use Rattle.std.proofs.lemmas.Bool.{false≢true}
 use Rattle.std.proofs.lemmas.List.{length-map}
-use Rattle.std.proofs.lemmas.Result.{IfOk-from_err}
 use Rattle.daachorse_build.proofs.GrownCounts.{length-resized}
 use Rattle.daachorse_patterns.proofs.corpus.Corpus.profile.Goals as goal
-
-pub returns-in_err-resize-clause-ok : goal.returns-in_err-resize-clause-ok
-returns-in_err-resize-clause-ok g c = IfOk-from_err c.from_residual.result _ c.from_residual.ensures.0
 
 pub count_all-requires-clause-counts : goal.count_all-requires-clause-counts
 count_all-requires-clause-counts g c = record {

@@ -1,11 +1,13 @@
 -- Which bits of a byte are 0 after each step of the code.
-use Rattle.std.proofs.Common.{◌≡◌, ◌≢◌, ℕ, ◌+◌, ◌-◌, ◌*◌, ◌/◌, ◌%◌, ◌^◌, ◌<◌, ◌≤◌, true, false, ◌&&◌, sym, ap, ◌∙◌, arith}
+use Rattle.std.proofs.Common.{◌≡◌, ◌≢◌, ℕ, ◌+◌, ◌-◌, ◌*◌, ◌/◌, ◌%◌, ◌^◌, ◌<◌, ◌≤◌, ◌⊎◌, inl, inr, true, false, Bool, ◌&&◌, refl, sym, ap, ◌∙◌, arith}
 use Rattle.std.specs.Prelude.{◌==◌, ◌||◌, max, min, bit_and, bit_or}
-use Rattle.std.specs.Int.{bit_at, bit_not, w8, w32}
-use Rattle.std.proofs.lemmas.Bool.{eq-eqb}
-use Rattle.std.proofs.lemmas.Bool.Decides.{nat_tests}
-use Rattle.std.proofs.lemmas.Nat.{pow_pos}
-use Rattle.std.proofs.lemmas.Nat.Bits.{bit_at_and, bit_at_or, bit_at_not, bit_at-zero, bit_at_cat_low, bit_at_cat_high, bit_at_ones, bit_at_ones_above, bit_at-lt, bit_at_clear_same, bit_at_clear_other, same_from_bits_below}
+use Rattle.std.specs.Int.{bit_at, bit_not, w8, w32, w64}
+use Rattle.std.proofs.lemmas.Bool.{eq-eqb, or_right}
+use Rattle.std.proofs.lemmas.Bool.Decides.{eqb_tells, nat_tests}
+use Rattle.std.proofs.lemmas.Nat.{pow_pos, mod_below}
+use Rattle.std.proofs.lemmas.Nat.Bits.{bit_at_and, bit_at_or, bit_at_not, bit_at-zero, bit_at_cat_low, bit_at_cat_high, bit_at_ones, bit_at_ones_above, bit_at_above, bit_at-lt, bit_at_clear_same, bit_at_clear_other, same_from_bits_below}
+use lib.Bits.{and_mask}
+use Rattle.std.proofs.Math.Nat.{div-add-mod'}
 use Rattle.daachorse_model.specs.Filter.{is_clear}
 
 both_zero : (x y : ℕ) → (max x y == 0) ≡ ((x == 0) && (y == 0))
@@ -82,3 +84,47 @@ same_bit x y hx hy e = grind (arith, nat_tests)
 -- two bytes with the same bits 0
 pub same_from_clear : (a b : ℕ) → a < 2 ^ 8 → b < 2 ^ 8 → ((j : ℕ) → j < 8 → is_clear a j ≡ is_clear b j) → a ≡ b
 same_from_clear a b ha hb e = same_from_bits_below 8 a b ha hb (λ j h. same_bit (bit_at a j) (bit_at b j) (bit_at-lt a j) (bit_at-lt b j) (e j h))
+
+-- a shift by k moves each bit down by k
+pub is_clear_shr : (n k i : ℕ) → is_clear (n / 2 ^ k) i ≡ is_clear n (k + i)
+is_clear_shr n k i =
+    let back : k + i - k ≡ i = omega arith in
+    ap (λ b. b == 0) (ap (λ j. bit_at (n / 2 ^ k) j) (sym back)
+    ∙ sym (bit_at_cat_high (n / 2 ^ k) k (n % 2 ^ k) (k + i) (mod_below n (2 ^ k) (pow_pos k)) (omega arith))
+    ∙ ap (λ m. bit_at m (k + i)) (div-add-mod' n (2 ^ k)))
+
+-- a number of 64 bits has no others
+pub is_clear_above : (n i : ℕ) → n < 2 ^ 64 → 64 ≤ i → is_clear n i ≡ true
+is_clear_above n i h above = eq-eqb _ 0 (bit_at_above n 64 i h above)
+
+-- the lower k bits are all 1 just where they are the number of k ones
+pub low_ones : (n k i : ℕ) → bit_and n (2 ^ k - 1) ≡ 2 ^ k - 1 → i < k → is_clear n i ≡ false
+low_ones n k i e h = first_false (is_clear n i) (is_clear (2 ^ k - 1) i) (sym (is_clear-and n (2 ^ k - 1) i) ∙ ap (λ m. is_clear m i) e ∙ is_clear_mask k i h)
+  where
+    first_false : (a b : Bool) → (a || b) ≡ false → a ≡ false
+    first_false true b e = e
+    first_false false b e = refl
+
+pub ones_low : (n k : ℕ) → ((i : ℕ) → i < k → is_clear n i ≡ false) → bit_and n (2 ^ k - 1) ≡ 2 ^ k - 1
+ones_low n k set =
+    same_from_bits_below k (bit_and n (2 ^ k - 1)) (2 ^ k - 1)
+    (let m = and_mask n k in let below = mod_below n (2 ^ k) (pow_pos k) in omega arith)
+    (let p = pow_pos k in omega arith)
+    (λ i h. bit_at_and n (2 ^ k - 1) i ∙ both_one (bit_at n i) (bit_at (2 ^ k - 1) i) (set i h) (bit_at-lt n i) (bit_at_ones k i h))
+  where
+    both_one : (x y : ℕ) → (x == 0) ≡ false → x < 2 → y ≡ 1 → min x y ≡ y
+    both_one x y e h one = grind (arith, nat_tests)
+
+-- a bit that is masked out is 0, and each other as it was
+pub is_clear_unset : (n k i : ℕ) → k < 64 → i < 64 → is_clear (bit_and n (bit_not w64 (1 * 2 ^ k % 2 ^ 64))) i ≡ (is_clear n i || (i == k))
+is_clear_unset n k i h within = by (eqb_tells i k)
+  where
+    or_false : (a b : Bool) → b ≡ false → (a || b) ≡ a
+    or_false true b e = refl
+    or_false false b e = e
+
+    by : ((i == k) ≡ true) × (i ≡ k) ⊎ ((i == k) ≡ false) × (i ≢ k) → is_clear (bit_and n (bit_not w64 (1 * 2 ^ k % 2 ^ 64))) i ≡ (is_clear n i || (i == k))
+    by (inl (test, same)) =
+        ap (λ j. is_clear (bit_and n (bit_not w64 (1 * 2 ^ k % 2 ^ 64))) j) same ∙ eq-eqb _ 0 (bit_at_clear_same w64 n k h)
+        ∙ sym (or_right (is_clear n i) (i == k) test)
+    by (inr (test, other)) = ap (λ b. b == 0) (bit_at_clear_other w64 n k h i within other) ∙ sym (or_false (is_clear n i) (i == k) test)

@@ -18,4 +18,9 @@ pub mod WindowLaws
 pub mod KeyLaws
 pub mod SkipLaws
 pub mod SoundFilters
-pub mod BeginningLaws
+pub mod BucketWindows
+pub mod BucketScanLaws
+pub mod BucketFolds
+pub mod BucketMarks
+pub mod BucketLaws
+pub mod Candidates

@@ -8,7 +8,7 @@ use Rattle.daachorse_prefilter.proofs.KeyLaws.{passes_before}
 use Rattle.daachorse_prefilter.proofs.PlaceLaws.{both_pass}
 use Rattle.daachorse_haystack.specs.Filters.{IsSoundFor}
 use Rattle.daachorse_prefilter.specs.Asked.{lets_pass}
-use Rattle.daachorse_prefilter.specs.Beginnings.{may_begin}
+use Rattle.daachorse_prefilter.specs.Buckets.{may_begin}
 
 module _ {V : Type 0} (K : Dictionary V) where
   -- of what passes at each beginning, both the test and the filter do

@@ -8,7 +8,7 @@ use Rattle.daachorse_prefilter.specs.declared.prefilter.window.Window.{Window}
 use Rattle.daachorse_prefilter.proofs.NextPlaces.{pairs_pass_more, passes-append}
 
 -- pairs within a text are those of each longer one
-pairs_pass-front : (t : ℕ → ℕ) (j k : ℕ) (w r : List ℕ) → k < length w → pairs_pass t j k (w ++ r) ≡ pairs_pass t j k w
+pub pairs_pass-front : (t : ℕ → ℕ) (j k : ℕ) (w r : List ℕ) → k < length w → pairs_pass t j k (w ++ r) ≡ pairs_pass t j k w
 pairs_pass-front t j zero w r h = refl
 pairs_pass-front t j (suc k) [] r h = absurd (omega arith)
 pairs_pass-front t j (suc k) (a ∷ []) r h = absurd (omega arith)

@@ -1,38 +1,40 @@
--- A filter over pairs of bytes with its gate and a test of its places, as a search sees it.
+-- A filter over pairs of bytes with its gate and buckets of patterns with theirs, as a search sees them.
 use Rattle.std.specs.Prelude.{◌≡◌, ℕ, ◌-◌, ◌↔◌, Bool, true, ◌&&◌, IsTrue, List, [], ◌∷◌, ◌++◌, Option, Some, None, IsSome}
 use Rattle.daachorse_prefilter.specs.declared.prefilter.gate.PrefilterGate.{PrefilterGate}
 use Rattle.daachorse_prefilter.specs.Filters.{Filter, admits}
 use Rattle.daachorse_prefilter.specs.Gates.{HasRecorded, IsPaying}
 use Rattle.daachorse_model.specs.Units.{size}
 
--- the filter, if there is one, the marks of what patterns begin with, if these are asked where it passes, and the gate before it
+-- the filter, if there is one, the buckets, if candidates are found by some, the gate before both, and whether that of the buckets is open
 pub record Asked : Type 0 where
   pub filter : Option Filter
-  pub beginnings : Option (List Bool)
+  pub buckets : Option (List ℕ)
   pub gate : PrefilterGate
+  pub is_open : Bool
 
 -- the filter passes at the beginning of these bytes, and so does the test; where there is no filter, anything passes
 abbrev pub lets_pass : (List ℕ → Bool) → Option Filter → List ℕ → Bool
 lets_pass tested None bytes = true
 lets_pass tested (Some f) bytes = tested bytes && admits f bytes
 
--- this filter, if there is one, is asked, and these marks, if there are any, where it passes, and its gate has recorded nothing
-pub record BeginsAskingBoth (marks : Option (List Bool)) (f : Option Filter) (s : Asked) : Type 0 where
+-- this filter, if there is one, is asked, and these buckets, if there are some, and the gates have recorded nothing
+pub record BeginsAskingBoth (table : Option (List ℕ)) (f : Option Filter) (s : Asked) : Type 0 where
   pub filter : s.filter ≡ f
-  pub beginnings : s.beginnings ≡ marks
+  pub buckets : s.buckets ≡ table
   pub gate : HasRecorded s.gate []
+  pub is_open : IsTrue s.is_open
 
 -- this filter alone, if there is one, is asked, and its gate has recorded nothing
 abbrev pub BeginsAsking : Option Filter → Asked → Type 0
 BeginsAsking f s = BeginsAskingBoth None f s
 
--- there is a filter, and its gate has recorded nothing
+-- there is a filter, and the gates have recorded nothing
 abbrev pub IsUnused : Asked → Type 0
-IsUnused s = IsSome s.filter × HasRecorded s.gate []
+IsUnused s = IsSome s.filter × HasRecorded s.gate [] × IsTrue s.is_open
 
--- whatever its gate has recorded: the filter is worth asking just where there is one and its skips paid for themselves
+-- whatever its gate has recorded: the filter is worth asking just where there is one, its skips paid for themselves and the other gate is open
 abbrev pub IsOpenWhilePaying : Asked → Bool → Type 0
-IsOpenWhilePaying s answer = (gains : List ℕ) → HasRecorded s.gate gains → IsTrue answer ↔ (IsSome s.filter × IsPaying gains)
+IsOpenWhilePaying s answer = (gains : List ℕ) → HasRecorded s.gate gains → IsTrue answer ↔ (IsSome s.filter × IsPaying gains × IsTrue s.is_open)
 
 -- whatever its gate has recorded, there is a filter, and its skips paid for themselves
 abbrev pub IsWorthAsking : Asked → Type 0

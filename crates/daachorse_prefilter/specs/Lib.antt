@@ -10,4 +10,5 @@ pub mod Readings
 pub mod Scans
 pub mod Places
 pub mod Asked
-pub mod Beginnings
+pub mod Buckets
+pub mod BucketScans

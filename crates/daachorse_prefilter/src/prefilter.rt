@@ -4,7 +4,7 @@
 //! pair of neighbouring bytes of its window is at the same offset in some pattern. The method is
 //! known as shift-or with q-grams.
 
-ghost use Rattle.std.specs.Prelude.{◌≡◌, ◌++◌, ℕ, ◌<◌, ◌≤◌, ◌&&◌, List, drop, true, IfOk, IfErr};
+ghost use Rattle.std.specs.Prelude.{◌≡◌, ◌++◌, ℕ, ◌<◌, ◌≤◌, ◌+◌, ◌&&◌, List, drop, length, true, IfOk, IfErr};
 ghost use Rattle.std.specs.Cmp.Rules.{comparing};
 ghost use Rattle.std.proofs.Common.{rules};
 ghost use Rattle.daachorse_core.specs.Refusals.{IsOutOfMemory};
@@ -111,6 +111,16 @@ impl<A: Allocator> Prefilter<A> {
         ensures { IsFirstPlace (λ w. T.lets test.now w && admits self.now w) (R.read haystack.now) pos result }
     {
         scan::<R, A, T>(&self.table, test, self.window_len, haystack, pos)
+    }
+
+    /// Whether the whole window at a place passes.
+    #[inline(always)]
+    pub fn admits_at<R: ByteReading>(&self, haystack: &[u8], place: usize) -> bool
+        requires { place + 9 ≤ length haystack.now }
+        ensures { result ≡ admits self.now (drop place (R.read haystack.now)) }
+    {
+        let end = place + self.window_len as usize;
+        self.first_place::<R, NoTest>(&NoTest, &haystack[place..end], 0) == 0
     }
 
     /// Like [`Self::first_place`], with only the boundaries of the text's characters as candidates.

@@ -2,14 +2,14 @@
 //!
 //! It is asked while its gate is open. No match of a search depends on the gate.
 
-ghost use Rattle.std.specs.Prelude.{◌≡◌, ℕ, List, [], None, option_map, encode_utf8_all, IsTrue};
-ghost use Rattle.daachorse_prefilter.specs.Gates.{HasRecorded};
+ghost use Rattle.std.specs.Prelude.{◌≡◌, ◌↔◌, ℕ, List, [], None, option_map, encode_utf8_all, IsTrue};
+ghost use Rattle.daachorse_prefilter.specs.Gates.{HasRecorded, IsPaying};
 ghost use Rattle.daachorse_haystack.specs.Filters.{IsNextPassing};
 ghost use Rattle.daachorse_model.specs.Units.{byte_width, char_width};
 ghost use Rattle.daachorse_prefilter.specs.Asked.{HasRecordedSkip, IsOpenWhilePaying, IsUnused, IsWorthAsking, lets_pass};
-ghost use Rattle.daachorse_prefilter.specs.Beginnings.{may_begin};
+ghost use Rattle.daachorse_prefilter.specs.Buckets.{may_begin};
 
-use crate::beginnings::Beginnings;
+use crate::buckets::{Buckets, BucketsGate};
 use crate::places::{first_boundary, first_place};
 use crate::prefilter::{Prefilter, PrefilterGate};
 use daachorse_haystack::filter::Filter;
@@ -18,13 +18,14 @@ use daachorse_haystack::text::Text;
 use std::alloc::{Allocator, Global};
 use std::marker::Model;
 
-/// The prefilter of an automaton, if it has one, during one search, and what its patterns begin
-/// with, if candidates are verified by that.
+/// The prefilter of an automaton, if it has one, during one search, and the buckets of its
+/// patterns, if candidates are found by these.
 #[derive(Drop)]
 pub struct Skipping<'a, A: Allocator = Global> {
     filter: Option<&'a Prefilter<A>>,
-    beginnings: Option<&'a Beginnings<A>>,
+    buckets: Option<&'a Buckets<A>>,
     gate: PrefilterGate,
+    buckets_gate: BucketsGate,
 }
 
 impl<'a, A: Allocator> Model for Skipping<'a, A> {
@@ -33,7 +34,7 @@ impl<'a, A: Allocator> Model for Skipping<'a, A> {
 
     ghost Value = { Asked };
 
-    ghost view = { λ s. record { filter = option_map (λ f. f.now) s.filter; beginnings = option_map (λ b. b.now) s.beginnings; gate = s.gate } };
+    ghost view = { λ s. record { filter = option_map (λ f. f.now) s.filter; buckets = option_map (λ b. b.now) s.buckets; gate = s.gate; is_open = s.buckets_gate.is_open } };
 }
 
 impl<'a, A: Allocator> Skipping<'a, A> {
@@ -41,43 +42,55 @@ impl<'a, A: Allocator> Skipping<'a, A> {
     #[inline(always)]
     pub fn new(filter: Option<&'a Prefilter<A>>) -> Self
         ensures filter { result.filter ≡ option_map (λ f. f.now) filter.entry }
-        ensures alone { result.beginnings ≡ None }
+        ensures alone { result.buckets ≡ None }
         ensures gate { HasRecorded result.gate [] }
+        ensures is_open { IsTrue result.is_open }
     {
         Self {
             filter,
-            beginnings: None,
+            buckets: None,
             gate: PrefilterGate::new(),
+            buckets_gate: BucketsGate::new(),
         }
     }
 
-    /// The same prefilter and gate, with candidates verified by these beginnings, if any.
+    /// The same prefilter and gates, with candidates found by these buckets, if any.
     #[inline(always)]
-    pub fn with_beginnings(self, beginnings: Option<&'a Beginnings<A>>) -> Self
+    pub fn with_buckets(self, buckets: Option<&'a Buckets<A>>) -> Self
         ensures filter { result.filter ≡ self.entry.filter }
-        ensures beginnings { result.beginnings ≡ option_map (λ b. b.now) beginnings.entry }
+        ensures buckets { result.buckets ≡ option_map (λ b. b.now) buckets.entry }
         ensures gate { result.gate ≡ self.entry.gate }
+        ensures is_open { result.is_open ≡ self.entry.is_open }
     {
         Self {
             filter: self.filter,
-            beginnings,
+            buckets,
             gate: self.gate,
+            buckets_gate: self.buckets_gate,
         }
     }
 
-    /// Whether there is a prefilter behind an open gate.
+    /// Whether there is a prefilter behind open gates.
     #[inline(always)]
     fn is_worth(&self) -> bool
         ensures unused { IsUnused self.now → IsTrue result }
         ensures asked { IsTrue result → IsWorthAsking self.now }
         ensures paying { IsOpenWhilePaying self.now result }
     {
-        self.filter.is_some() && self.gate.is_enabled()
+        self.filter.is_some() && self.are_open()
+    }
+
+    /// Whether both gates are open.
+    #[inline(always)]
+    fn are_open(&self) -> bool
+        ensures { (gains : List ℕ) → HasRecorded self.now.gate gains → IsTrue result ↔ (IsPaying gains × IsTrue self.now.is_open) }
+    {
+        self.gate.is_enabled() && self.buckets_gate.is_open()
     }
 }
 
 impl<'a, 'h, A: Allocator> Filter<u8, Bytes<'h>> for Skipping<'a, A> {
-    ghost passes = { λ s w. lets_pass (may_begin s.beginnings) s.filter w };
+    ghost passes = { λ s w. lets_pass (may_begin s.buckets) s.filter w };
 
     ghost opened = { λ s. IsUnused s };
 
@@ -94,21 +107,23 @@ impl<'a, 'h, A: Allocator> Filter<u8, Bytes<'h>> for Skipping<'a, A> {
 
     #[inline(always)]
     fn skip(&mut self, rest: &mut Bytes<'h>)
-        ensures passes { (w : List ℕ) → lets_pass (may_begin self.new.beginnings) self.new.filter w ≡ lets_pass (may_begin self.old.beginnings) self.old.filter w }
-        ensures goes { IsNextPassing (λ w. lets_pass (may_begin self.old.beginnings) self.old.filter w) rest.old rest.new }
+        ensures passes { (w : List ℕ) → lets_pass (may_begin self.new.buckets) self.new.filter w ≡ lets_pass (may_begin self.old.buckets) self.old.filter w }
+        ensures goes { IsNextPassing (λ w. lets_pass (may_begin self.old.buckets) self.old.filter w) rest.old rest.new }
         ensures records { HasRecordedSkip byte_width self.old rest.old rest.new self.new }
+        ensures stays { self.old.buckets ≡ None → self.new.is_open ≡ self.old.is_open }
     {
         if let Some(filter) = self.filter {
             let (bytes, folds) = rest.unread();
-            let gain = first_place(filter, self.beginnings, bytes, folds);
+            let gain = first_place(filter, self.buckets, bytes, folds);
             self.gate.record(gain);
+            self.buckets_gate = self.buckets_gate.after(self.buckets.is_some(), gain);
             *rest = rest.after(gain);
         }
     }
 }
 
 impl<'a, 'h, A: Allocator> Filter<char, Text<'h>> for Skipping<'a, A> {
-    ghost passes = { λ s w. lets_pass (may_begin s.beginnings) s.filter (encode_utf8_all w) };
+    ghost passes = { λ s w. lets_pass (may_begin s.buckets) s.filter (encode_utf8_all w) };
 
     ghost opened = { λ s. IsUnused s };
 
@@ -125,14 +140,16 @@ impl<'a, 'h, A: Allocator> Filter<char, Text<'h>> for Skipping<'a, A> {
 
     #[inline(always)]
     fn skip(&mut self, rest: &mut Text<'h>)
-        ensures passes { (w : List ℕ) → lets_pass (may_begin self.new.beginnings) self.new.filter (encode_utf8_all w) ≡ lets_pass (may_begin self.old.beginnings) self.old.filter (encode_utf8_all w) }
-        ensures goes { IsNextPassing (λ w. lets_pass (may_begin self.old.beginnings) self.old.filter (encode_utf8_all w)) rest.old rest.new }
+        ensures passes { (w : List ℕ) → lets_pass (may_begin self.new.buckets) self.new.filter (encode_utf8_all w) ≡ lets_pass (may_begin self.old.buckets) self.old.filter (encode_utf8_all w) }
+        ensures goes { IsNextPassing (λ w. lets_pass (may_begin self.old.buckets) self.old.filter (encode_utf8_all w)) rest.old rest.new }
         ensures records { HasRecordedSkip char_width self.old rest.old rest.new self.new }
+        ensures stays { self.old.buckets ≡ None → self.new.is_open ≡ self.old.is_open }
     {
         if let Some(filter) = self.filter {
             let (text, folds) = rest.unread();
-            let gain = first_boundary(filter, self.beginnings, text, folds);
+            let gain = first_boundary(filter, self.buckets, text, folds);
             self.gate.record(gain);
+            self.buckets_gate = self.buckets_gate.after(self.buckets.is_some(), gain);
             *rest = rest.after(gain);
         }
     }

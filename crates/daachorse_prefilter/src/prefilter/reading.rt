@@ -1,6 +1,6 @@
 //! How a prefilter reads a haystack: as it is, or without regard to the case of ASCII letters.
 
-ghost use Rattle.std.specs.Prelude.{◌≡◌, ◌↔◌, ◌+◌, ◌/◌, ◌%◌, ◌<◌, ◌≤◌, ℕ, List, drop, length, map, slice_index};
+ghost use Rattle.std.specs.Prelude.{◌≡◌, ◌↔◌, ◌+◌, ◌/◌, ◌%◌, ◌<◌, ◌≤◌, bit_or, ℕ, List, drop, length, map, slice_index};
 ghost use Rattle.std.specs.Str.{IsCharBoundary};
 
 use super::pair_table::pair_of;
@@ -34,6 +34,9 @@ pub trait ByteReading {
     // Each byte is read by itself.
     ghost reads_each: { (text : List ℕ) → read text ≡ map as_read text };
 
+    // With the bit of its case set, what is read for a byte is the byte.
+    ghost same_letter: { (b : ℕ) → bit_or (as_read b % 256) 32 ≡ bit_or (b % 256) 32 };
+
     // Character boundaries stay where they are.
     ghost same_boundaries: { (text : List ℕ) (place : ℕ) → IsCharBoundary (read text) place ↔ IsCharBoundary text place };
 }
@@ -45,7 +48,7 @@ pub struct AsItIs;
 pub struct AsFolded;
 
 impl ByteReading for AsItIs {
-    ghost use Rattle.daachorse_prefilter.specs.Readings.{reads_as_it_is, same_as_it_is};
+    ghost use Rattle.daachorse_prefilter.specs.Readings.{letter_as_it_is, reads_as_it_is, same_as_it_is};
 
     ghost as_read = { λ b. b };
 
@@ -70,13 +73,15 @@ impl ByteReading for AsItIs {
 
     ghost reads_each = { reads_as_it_is };
 
+    ghost same_letter = { letter_as_it_is };
+
     ghost same_boundaries = { same_as_it_is };
 }
 
 impl ByteReading for AsFolded {
     ghost use Rattle.daachorse_model.specs.Folding.{folded, folded_unit};
     ghost use Rattle.daachorse_model.proofs.FoldLaws.{IsCharBoundary-folded};
-    ghost use Rattle.daachorse_prefilter.specs.Readings.{reads_folded};
+    ghost use Rattle.daachorse_prefilter.specs.Readings.{letter_folded, reads_folded};
 
     ghost as_read = { folded_unit };
 
@@ -99,6 +104,8 @@ impl ByteReading for AsFolded {
     }
 
     ghost reads_each = { reads_folded };
+
+    ghost same_letter = { letter_folded };
 
     ghost same_boundaries = { IsCharBoundary-folded };
 }

@@ -10,7 +10,7 @@ use Rattle.daachorse_prefilter.specs.Gates.{HasRecorded}
 use Rattle.daachorse_prefilter.specs.Filters.{Filter, admits}
 use Rattle.daachorse_haystack.specs.Filters.{IsNextPassing}
 use Rattle.daachorse_prefilter.specs.Asked.{Asked, lets_pass}
-use Rattle.daachorse_prefilter.specs.Beginnings.{may_begin}
+use Rattle.daachorse_prefilter.specs.Buckets.{may_begin}
 use Rattle.daachorse_prefilter.specs.Places.{IsFirstBoundary}
 use Rattle.daachorse_prefilter.proofs.SkipLaws.{IsUtf8-as_read, chars-as_read, chars_cut, chars_sized, recorded_skip, skipped_chars}
 use Rattle.daachorse_prefilter.proofs.skipping.SkippingFilterCharText.skip.Goals as goal
@@ -25,8 +25,8 @@ pub returns-in-Some-clause-goes : goal.returns-in-Some-clause-goes
 returns-in-Some-clause-goes g c =
     let text = c.unread-folds.result.0.now in let folds = c.unread-folds.result.1 in let u = IsUtf8-as_read folds text c.unread-folds.ensures.utf8 in let whole : chars (as_read folds text) ≡ c.args.rest.now = chars-as_read folds text c.unread-folds.ensures.utf8 ∙ c.unread-folds.ensures.units in
     let f = c.in-Some.filter.now in let bs = as_read folds text in let r : ℕ = c.first_boundary-gain.result in let later = c.after.result in
-    let marks = c.args.self.now.beginnings in
-    let S : Asked → Type 0 = λ s. IsFirstBoundary (λ v. may_begin s.beginnings v && admits f v) bs 0 r in
+    let marks = c.args.self.now.buckets in
+    let S : Asked → Type 0 = λ s. IsFirstBoundary (λ v. may_begin s.buckets v && admits f v) bs 0 r in
     let next = subst S c.self.view_is c.first_boundary-gain.ensures in
     let shown : c.args.self.now.filter ≡ Some f = sym (ap (λ (s : Asked). s.filter) c.self.view_is) ∙ ap (option_map (λ (x : Bor Filter). x.now)) c.in-Some.is in
     let P : Option Filter → Type 0 = λ o. IsNextPassing (λ w. lets_pass (may_begin marks) o (encode_utf8_all w)) c.args.rest.now later in

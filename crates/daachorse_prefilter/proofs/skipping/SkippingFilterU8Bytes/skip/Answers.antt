@@ -1,5 +1,5 @@
 -- The filter and the test are asked over the bytes that are still to come.
-use Rattle.std.proofs.Common.{◌≡◌, ℕ, Bool, ◌≤◌, ◌&&◌, ◌++◌, List, length, take, drop, Option, Some, sym, ap, ◌∙◌, subst, take-append-drop}
+use Rattle.std.proofs.Common.{◌≡◌, ℕ, ◌≤◌, ◌&&◌, ◌++◌, List, length, take, drop, Option, Some, sym, ap, ◌∙◌, subst, take-append-drop}
 use Rattle.std.specs.Borrow.{Bor}
 use Rattle.std.specs.Prelude.{option_map}
 use Rattle.daachorse_model.specs.Units.{byte_width}
@@ -8,7 +8,7 @@ use Rattle.daachorse_prefilter.specs.Gates.{HasRecorded}
 use Rattle.daachorse_prefilter.specs.Filters.{Filter, admits}
 use Rattle.daachorse_haystack.specs.Filters.{IsNextPassing}
 use Rattle.daachorse_prefilter.specs.Asked.{Asked, lets_pass}
-use Rattle.daachorse_prefilter.specs.Beginnings.{may_begin}
+use Rattle.daachorse_prefilter.specs.Buckets.{may_begin}
 use Rattle.daachorse_prefilter.specs.Places.{IsFirstPlace}
 use Rattle.daachorse_prefilter.proofs.SkipLaws.{bytes_sized, recorded_skip, skipped_bytes}
 use Rattle.daachorse_prefilter.proofs.skipping.SkippingFilterU8Bytes.skip.Goals as goal
@@ -22,9 +22,9 @@ after-requires g c =
 pub returns-in-Some-clause-goes : goal.returns-in-Some-clause-goes
 returns-in-Some-clause-goes g c =
     let f = c.in-Some.filter.now in let h = c.args.rest.now in let r : ℕ = c.first_place-gain.result in let later = c.after.result in
-    let marks = c.args.self.now.beginnings in
-    let P : List ℕ → Type 0 = λ w. IsFirstPlace (λ v. may_begin (option_map (λ (b : Bor (List Bool)). b.now) c.self.inside.beginnings) v && admits f v) w 0 r in
-    let Q : Asked → Type 0 = λ s. IsFirstPlace (λ v. may_begin s.beginnings v && admits f v) h 0 r in
+    let marks = c.args.self.now.buckets in
+    let P : List ℕ → Type 0 = λ w. IsFirstPlace (λ v. may_begin (option_map (λ (b : Bor (List ℕ)). b.now) c.self.inside.buckets) v && admits f v) w 0 r in
+    let Q : Asked → Type 0 = λ s. IsFirstPlace (λ v. may_begin s.buckets v && admits f v) h 0 r in
     let shown : c.args.self.now.filter ≡ Some f = sym (ap (λ (s : Asked). s.filter) c.self.view_is) ∙ ap (option_map (λ (x : Bor Filter). x.now)) c.in-Some.is in
     let first = subst Q c.self.view_is (subst P c.unread-folds.ensures c.first_place-gain.ensures) in
     let R : Option Filter → Type 0 = λ o. IsNextPassing (λ w. lets_pass (may_begin marks) o w) h later in

@@ -38,9 +38,9 @@ impl Filling {
         self.counts[len] = self.counts[len].saturating_add(1);
     }
 
-    /// Whether buckets are ahead of the prefilter: not with a pattern of fewer than three bytes, which
-    /// they let pass almost anywhere, nor where the shortest has six and there are fewer than 1,024
-    /// states, where the prefilter was measured to be as fast.
+    /// Whether buckets are ahead of the prefilter: not with a pattern of fewer than three bytes,
+    /// which they let pass almost anywhere, nor where the shortest has six and there are fewer than
+    /// 1,024 states, where the prefilter was measured to be as fast.
     pub fn is_worth(&self, num_states: usize) -> bool {
         self.shortest >= 3 && (self.shortest < 6 || num_states >= 1024)
     }

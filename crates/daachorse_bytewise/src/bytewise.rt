@@ -15,7 +15,7 @@ ghost use Rattle.daachorse_model.specs.Prefixes.{HasPrefixes, IsListing};
 ghost use Rattle.daachorse_search.specs.Beginnings.{BeginsFrom, BeginsStepping, BeginsWith};
 ghost use Rattle.daachorse_haystack.specs.Filters.{IsSoundFor};
 ghost use Rattle.daachorse_prefilter.specs.Asked.{BeginsAsking, lets_pass};
-ghost use Rattle.daachorse_prefilter.specs.Beginnings.{may_begin};
+ghost use Rattle.daachorse_prefilter.specs.Buckets.{may_begin};
 ghost use Rattle.daachorse_bytewise.specs.Automata.{HasDepths, MayFold, MayHaveFilter, dictionary_of, kind_of, states_of};
 ghost use Rattle.daachorse_core.specs.Seen.{units};
 ghost use Rattle.daachorse_bytewise.specs.Standings.{IsFindStandingIn, IsOverlappingStandingIn};
@@ -261,7 +261,7 @@ impl<V: Copy, A: Allocator> DoubleArrayAhoCorasick<V, A> {
     #[inline(always)]
     fn skipping<'a>(&'a self) -> Skipping<'a, A>
         ensures asks { BeginsAsking self.entry.now.filter result }
-        ensures sound { IsSoundFor (λ w. lets_pass (may_begin result.beginnings) result.filter w) (dictionary_of self.entry.now) }
+        ensures sound { IsSoundFor (λ w. lets_pass (may_begin result.buckets) result.filter w) (dictionary_of self.entry.now) }
     {
         Skipping::new(self.filter.as_ref())
     }

@@ -1,15 +1,15 @@
--- What callers see of an automaton over characters with rows: the automaton, the rows of its states near the root, and the marks of what its patterns begin with, if there are any.
+-- What callers see of an automaton over characters with rows: the automaton, the rows of its states near the root, and the buckets of its patterns, if there are some.
 use Rattle.std.specs.Prelude.{Bool, List, Option, encode_utf8_all}
 use Rattle.daachorse_rows.specs.Rows.{RowTable, Rowed}
 use Rattle.daachorse_charwise_states.specs.Parts.{Parts}
 use Rattle.daachorse_charwise_states.specs.StateRows.{CoversNear, StaysInRows, StaysUnlessLarge}
-pub use Rattle.daachorse_prefilter.specs.Beginnings.{MayTell, may_begin}
+pub use Rattle.daachorse_prefilter.specs.Buckets.{MayTell, may_begin}
 use Rattle.daachorse_charwise.specs.Automata.{Automaton, dictionary_of, states_of}
 
 pub record Accelerated (V : Type 0) : Type 0 where
   pub automaton : Automaton V
   pub rows : RowTable
-  pub beginnings : Option (List Bool)
+  pub buckets : Option (List ℕ)
 
 -- its states with their rows, through which its searches go
 abbrev pub rowed_states : {V : Type 0} → Accelerated V → Rowed (Parts V)
@@ -27,6 +27,6 @@ IsAllRows a = StaysInRows (states_of a.automaton) a.rows
 abbrev pub IsAllRowsUnlessLarge : {V : Type 0} → Accelerated V → Type 0
 IsAllRowsUnlessLarge a = StaysUnlessLarge (states_of a.automaton) a.rows
 
--- nothing tells what its patterns begin with, or the marks of four bytes each are those that patterns begin with, and no others
-abbrev pub MayTellBeginnings : {V : Type 0} → Accelerated V → Type 0
-MayTellBeginnings a = MayTell encode_utf8_all (dictionary_of a.automaton) a.beginnings
+-- there are no buckets, or each pattern is marked in them, and no bit is 0 that no pattern opens
+abbrev pub MayTellBuckets : {V : Type 0} → Accelerated V → Type 0
+MayTellBuckets a = MayTell encode_utf8_all (dictionary_of a.automaton) a.buckets

@@ -17,7 +17,7 @@ ghost use Rattle.daachorse_model.specs.Prefixes.{HasPrefixes, IsListing};
 ghost use Rattle.daachorse_search.specs.Beginnings.{BeginsFrom, BeginsStepping, BeginsWith};
 ghost use Rattle.daachorse_haystack.specs.Filters.{IsSoundFor};
 ghost use Rattle.daachorse_prefilter.specs.Asked.{BeginsAsking, lets_pass};
-ghost use Rattle.daachorse_prefilter.specs.Beginnings.{may_begin};
+ghost use Rattle.daachorse_prefilter.specs.Buckets.{may_begin};
 ghost use Rattle.daachorse_charwise.specs.Automata.{HasDepths, MayFold, MayHaveFilter, dictionary_of, element_count, kind_of, states_of};
 ghost use Rattle.daachorse_charwise.specs.Building.{IsBuildRefusal, IsBuiltOf, IsBuiltWith, IsRefusalOf, kept_filter, registrations_of_strings, texts_of_strings};
 ghost use Rattle.daachorse_charwise_states.specs.Texts.{AreTexts};
@@ -274,7 +274,7 @@ impl<V: Copy, A: Allocator> CharwiseDoubleArrayAhoCorasick<V, A> {
     #[inline(always)]
     fn skipping<'a>(&'a self) -> Skipping<'a, A>
         ensures asks { BeginsAsking self.entry.now.filter result }
-        ensures sound { IsSoundFor (λ w. lets_pass (may_begin result.beginnings) result.filter (encode_utf8_all w)) (dictionary_of self.entry.now) }
+        ensures sound { IsSoundFor (λ w. lets_pass (may_begin result.buckets) result.filter (encode_utf8_all w)) (dictionary_of self.entry.now) }
     {
         Skipping::new(self.filter.as_ref())
     }

@@ -1,4 +1,4 @@
-//! Rows of states: their number, characters without a slot, and what patterns begin with.
+//! Rows of states: their number, characters without a slot, and buckets of patterns.
 
 use crate::automata::{Automaton, Bytewise, Charwise};
 use crate::expect;
@@ -68,18 +68,18 @@ fn a_character_without_a_slot_is_found(rt: HostRuntime) -> Result<(), Fail> {
 /// Whether a search over rows skips what begins no pattern and finds what does.
 ///
 /// The prefilter passes at `abcy` too: its pairs of bytes have the same offsets in the patterns.
-fn finds_beginnings<T: Automaton<Alloc = Global>>(
+fn finds_by_buckets<T: Automaton<Alloc = Global>>(
     alloc: Global,
     way: Way,
     text: &str,
 ) -> Result<bool> {
-    let mut long = String::from_str(alloc, "abcd")?;
-    for _ in 0..9000 {
-        long.push('e')?;
+    let mut padded = String::from_str(alloc, text)?;
+    for _ in 0..64 {
+        padded.push('e')?;
     }
-    let patvals = [(long.as_str(), 0), ("xbcy", 1)];
+    let patvals = [("abcdefghi", 0), ("xbcy", 1)];
     let automaton = T::built(alloc, way, MatchKind::Standard, &patvals)?;
-    automaton.finds_with_rows(alloc, Search::Overlapping, text, &[(5, 9, 1)])
+    automaton.finds_with_rows(alloc, Search::Overlapping, &padded, &[(5, 9, 1)])
 }
 
 #[test]
@@ -88,23 +88,23 @@ fn what_begins_no_pattern_is_passed_over(rt: HostRuntime) -> Result<(), Fail> {
     let text = "zabcyxbcyabcdeabc";
     expect(
         &rt,
-        finds_beginnings::<Bytewise>(alloc, BUILT, text)?,
+        finds_by_buckets::<Bytewise>(alloc, BUILT, text)?,
         "bytes",
     );
     expect(
         &rt,
-        finds_beginnings::<Charwise>(alloc, BUILT, text)?,
+        finds_by_buckets::<Charwise>(alloc, BUILT, text)?,
         "characters",
     );
     let text = "zaBCyXbCyABcdeabc";
     expect(
         &rt,
-        finds_beginnings::<Bytewise>(alloc, FOLDING, text)?,
+        finds_by_buckets::<Bytewise>(alloc, FOLDING, text)?,
         "folded bytes",
     );
     expect(
         &rt,
-        finds_beginnings::<Charwise>(alloc, FOLDING, text)?,
+        finds_by_buckets::<Charwise>(alloc, FOLDING, text)?,
         "folded characters",
     );
     Ok(())

@@ -11,9 +11,9 @@ ghost use Rattle.daachorse_model.specs.Units.{byte_width};
 ghost use Rattle.daachorse_search.specs.Beginnings.{BeginsFrom, BeginsStepping, BeginsWith};
 ghost use Rattle.daachorse_haystack.specs.Filters.{IsSoundFor};
 ghost use Rattle.daachorse_prefilter.specs.Asked.{BeginsAskingBoth, lets_pass};
-ghost use Rattle.daachorse_prefilter.specs.Beginnings.{MayTell, may_begin};
+ghost use Rattle.daachorse_prefilter.specs.Buckets.{MayTell, may_begin};
 ghost use Rattle.daachorse_bytewise_states.specs.StateRows.{HasNoRoom};
-ghost use Rattle.daachorse_bytewise.specs.Accelerated.{HasRowsNear, IsAllRowsUnlessLarge, MayTellBeginnings, rowed_states};
+ghost use Rattle.daachorse_bytewise.specs.Accelerated.{HasRowsNear, IsAllRowsUnlessLarge, MayTellBuckets, rowed_states};
 ghost use Rattle.daachorse_core.specs.Seen.{units};
 ghost use Rattle.daachorse_bytewise.specs.Automata.{dictionary_of, kind_of, states_of};
 ghost use Rattle.daachorse_bytewise.specs.Standings.{IsFindStandingOver, IsOverlappingStandingOver};
@@ -27,7 +27,7 @@ use crate::bytewise::{DoubleArrayAhoCorasick, states};
 use daachorse_core::errors::Result;
 use daachorse_haystack::haystack::Bytes;
 use daachorse_haystack::source;
-use daachorse_prefilter::beginnings::{BEGINNING, Beginnings, FEW_STATES};
+use daachorse_prefilter::buckets::{Buckets, BucketsBuilder, Filling};
 use daachorse_prefilter::skipping::Skipping;
 use daachorse_rows::rows::Rows;
 use daachorse_rows::view::RowView;
@@ -57,21 +57,21 @@ pub type RowedLeftmost<'a, V> = RowView<'a, V, states::Leftmost<'a, V>>;
 pub struct Accelerated<'a, V: Copy, A: Allocator = Global> {
     automaton: &'a DoubleArrayAhoCorasick<V, A>,
     rows: Rows<A>,
-    // Asked by searches in a slice after the prefilter passes.
-    beginnings: Option<Beginnings<A>>,
+    // Asked by searches in a slice ahead of the prefilter.
+    buckets: Option<Buckets<A>>,
 }
 
 impl<'a, V: Copy, A: Allocator> Model for Accelerated<'a, V, A> {
     ghost use Rattle.daachorse_bytewise.specs.Accelerated.{Accelerated};
     ghost use Rattle.daachorse_bytewise_states.specs.StateRows.{HasRows};
-    ghost use Rattle.daachorse_prefilter.specs.Beginnings.{MayTell};
+    ghost use Rattle.daachorse_prefilter.specs.Buckets.{MayTell};
     ghost use Rattle.daachorse_bytewise.specs.Automata.{dictionary_of};
 
     ghost Value = { Accelerated V };
 
-    ghost view = { λ s. record { automaton = s.automaton.now; rows = s.rows; beginnings = s.beginnings } };
+    ghost view = { λ s. record { automaton = s.automaton.now; rows = s.rows; buckets = s.buckets } };
 
-    ghost invariant = { λ s. HasRows s.automaton.now.parts s.rows × MayTell (λ w. w) (dictionary_of s.automaton.now) s.beginnings };
+    ghost invariant = { λ s. HasRows s.automaton.now.parts s.rows × MayTell (λ w. w) (dictionary_of s.automaton.now) s.buckets };
 }
 
 impl<V: Copy, A: Allocator + Copy> DoubleArrayAhoCorasick<V, A> {
@@ -85,46 +85,60 @@ impl<V: Copy, A: Allocator + Copy> DoubleArrayAhoCorasick<V, A> {
     /// Use it to search much text for up to some thousand words, or one thousand in a leftmost
     /// search. Tens of thousands make overlapping and leftmost searches slower (`docs/SPEED.md`).
     ///
-    /// With a prefilter, at least 8,192 states and no pattern of less than four bytes, searches in
-    /// a slice also ask a table of 8,192 bytes which four bytes patterns begin with. In all this
-    /// takes at most 256 KiB and two bytes for each element. Fails only if an allocation fails.
+    /// With a prefilter and no pattern of less than three bytes, searches in a slice also ask eight
+    /// buckets of patterns, unless the shortest has six bytes and there are fewer than 1,024 states.
+    /// The rows take at most 256 KiB and two bytes for each element, and the buckets 64 KiB. Fails
+    /// only if an allocation fails.
     pub fn accelerate<'a>(&'a self, alloc: A) -> Result<Option<Accelerated<'a, V, A>>>
         ensures automaton { IfOk result (λ a. IfSome a (λ a. a.automaton ≡ self.entry.now)) }
         ensures covered { IfOk result (λ a. IfSome a HasRowsNear) }
         ensures stays { IfOk result (λ a. IfSome a (λ a. kind_of a.automaton ≡ Standard → IsAllRowsUnlessLarge a)) }
-        ensures told { IfOk result (λ a. IfSome a MayTellBeginnings) }
+        ensures told { IfOk result (λ a. IfSome a MayTellBuckets) }
         ensures none { IfOk result (λ a. a ≡ None → HasNoRoom (states_of self.entry.now)) }
         ensures err { IfErr result IsOutOfMemory }
     {
         let Some(rows) = self.states.rows(alloc)? else {
             return Ok(None);
         };
-        let beginnings = self.beginnings(alloc)?;
+        let buckets = self.buckets(alloc)?;
         Ok(Some(Accelerated {
             automaton: self,
             rows,
-            beginnings,
+            buckets,
         }))
     }
 
-    /// The table of pattern beginnings, if there is a prefilter and no pattern is too short. With
-    /// few states the prefilter passes at little else, and there is none.
-    fn beginnings(&self, alloc: A) -> Result<Option<Beginnings<A>>>
+    /// The buckets of the patterns, if there is a prefilter and they are ahead of it.
+    fn buckets(&self, alloc: A) -> Result<Option<Buckets<A>>>
         ensures told { IfOk result (MayTell (λ w. w) (dictionary_of self.now)) }
         ensures err { IfErr result IsOutOfMemory }
     {
-        if self.filter.is_none() || self.num_states() < FEW_STATES {
+        if self.filter.is_none() {
             return Ok(None);
         }
-        let mut beginnings = Beginnings::new(alloc)?;
+        let mut filling = self.filling(alloc)?;
+        if !filling.is_worth(self.num_states()) {
+            return Ok(None);
+        }
+        let mut builder = BucketsBuilder::new(alloc)?;
         for item in self.iter(alloc)? {
             let (pattern, _value) = item?;
-            if pattern.len() < BEGINNING {
-                return Ok(None);
-            }
-            beginnings.add(&pattern);
+            let bucket = filling.next_bucket(pattern.len());
+            builder.add(&pattern, bucket);
         }
-        Ok(Some(beginnings))
+        Ok(Some(builder.close()))
+    }
+
+    /// How many patterns there are of each length.
+    fn filling(&self, alloc: A) -> Result<Filling>
+        ensures err { IfErr result IsOutOfMemory }
+    {
+        let mut filling = Filling::new();
+        for item in self.iter(alloc)? {
+            let (pattern, _value) = item?;
+            filling.count(pattern.len());
+        }
+        Ok(filling)
     }
 }
 
@@ -174,15 +188,15 @@ impl<'a, V: Copy, A: Allocator> Accelerated<'a, V, A> {
         self.rows.view(self.automaton.leftmost())
     }
 
-    /// The prefilter for a new search in a slice, followed by the table of pattern beginnings.
+    /// The prefilter for a new search in a slice, with the buckets ahead of it.
     #[inline(always)]
     fn skipping<'s>(&'s self) -> Skipping<'s, A>
-        ensures asks { BeginsAskingBoth self.entry.now.beginnings self.entry.now.automaton.filter result }
-        ensures sound { IsSoundFor (λ w. lets_pass (may_begin result.beginnings) result.filter w) (dictionary_of self.entry.now.automaton) }
+        ensures asks { BeginsAskingBoth self.entry.now.buckets self.entry.now.automaton.filter result }
+        ensures sound { IsSoundFor (λ w. lets_pass (may_begin result.buckets) result.filter w) (dictionary_of self.entry.now.automaton) }
     {
         self.automaton
             .skipping()
-            .with_beginnings(self.beginnings.as_ref())
+            .with_buckets(self.buckets.as_ref())
     }
 
     /// As [`DoubleArrayAhoCorasick::find_iter`], over rows.
@@ -195,7 +209,7 @@ impl<'a, V: Copy, A: Allocator> Accelerated<'a, V, A> {
         requires { kind_of self.now.automaton ≡ Standard }
         ensures begins { BeginsWith (rowed_states self.entry.now) (as_read self.entry.now.automaton.folds haystack.entry.now)
             (standard byte_width (dictionary_of self.entry.now.automaton) (as_read self.entry.now.automaton.folds haystack.entry.now)) result }
-        ensures asks { BeginsAskingBoth self.entry.now.beginnings self.entry.now.automaton.filter result.filter }
+        ensures asks { BeginsAskingBoth self.entry.now.buckets self.entry.now.automaton.filter result.filter }
     {
         find_in(
             self.standard(),
@@ -232,7 +246,7 @@ impl<'a, V: Copy, A: Allocator> Accelerated<'a, V, A> {
         requires { kind_of self.now.automaton ≡ Standard }
         ensures begins { BeginsWith (rowed_states self.entry.now) (as_read self.entry.now.automaton.folds haystack.entry.now)
             (overlapping byte_width (dictionary_of self.entry.now.automaton) (as_read self.entry.now.automaton.folds haystack.entry.now)) result }
-        ensures asks { BeginsAskingBoth self.entry.now.beginnings self.entry.now.automaton.filter result.filter }
+        ensures asks { BeginsAskingBoth self.entry.now.buckets self.entry.now.automaton.filter result.filter }
     {
         find_overlapping_in(
             self.standard(),
@@ -269,7 +283,7 @@ impl<'a, V: Copy, A: Allocator> Accelerated<'a, V, A> {
         requires { kind_of self.now.automaton ≡ Standard }
         ensures begins { BeginsWith (rowed_states self.entry.now) (as_read self.entry.now.automaton.folds haystack.entry.now)
             (no_suffix byte_width (dictionary_of self.entry.now.automaton) (as_read self.entry.now.automaton.folds haystack.entry.now)) result }
-        ensures asks { BeginsAskingBoth self.entry.now.beginnings self.entry.now.automaton.filter result.filter }
+        ensures asks { BeginsAskingBoth self.entry.now.buckets self.entry.now.automaton.filter result.filter }
     {
         find_overlapping_no_suffix_in(
             self.standard(),
@@ -306,7 +320,7 @@ impl<'a, V: Copy, A: Allocator> Accelerated<'a, V, A> {
         requires { kind_of self.now.automaton ≢ Standard }
         ensures begins { BeginsWith (rowed_states self.entry.now) (as_read self.entry.now.automaton.folds haystack.entry.now)
             (leftmost byte_width (dictionary_of self.entry.now.automaton) (as_read self.entry.now.automaton.folds haystack.entry.now)) result }
-        ensures asks { BeginsAskingBoth self.entry.now.beginnings self.entry.now.automaton.filter result.filter }
+        ensures asks { BeginsAskingBoth self.entry.now.buckets self.entry.now.automaton.filter result.filter }
     {
         LeftmostMatches::with_filter(
             self.leftmost(),

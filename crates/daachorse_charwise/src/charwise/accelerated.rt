@@ -12,9 +12,9 @@ ghost use Rattle.daachorse_model.specs.Units.{char_width};
 ghost use Rattle.daachorse_search.specs.Beginnings.{BeginsFrom, BeginsStepping, BeginsWith};
 ghost use Rattle.daachorse_haystack.specs.Filters.{IsSoundFor};
 ghost use Rattle.daachorse_prefilter.specs.Asked.{BeginsAskingBoth, lets_pass};
-ghost use Rattle.daachorse_prefilter.specs.Beginnings.{MayTell, may_begin};
+ghost use Rattle.daachorse_prefilter.specs.Buckets.{MayTell, may_begin};
 ghost use Rattle.daachorse_charwise_states.specs.StateRows.{HasFewCodes, HasNoRoom};
-ghost use Rattle.daachorse_charwise.specs.Accelerated.{HasRowsNear, IsAllRowsUnlessLarge, MayTellBeginnings, rowed_states};
+ghost use Rattle.daachorse_charwise.specs.Accelerated.{HasRowsNear, IsAllRowsUnlessLarge, MayTellBuckets, rowed_states};
 ghost use Rattle.daachorse_charwise.specs.Automata.{dictionary_of, kind_of, states_of};
 
 use crate::charwise::iter::{
@@ -27,7 +27,7 @@ use daachorse_charwise_states::for_rows::ForRows;
 use daachorse_core::errors::Result;
 use daachorse_haystack::decoding::Decoded;
 use daachorse_haystack::text::Text;
-use daachorse_prefilter::beginnings::{BEGINNING, Beginnings, FEW_STATES};
+use daachorse_prefilter::buckets::{Buckets, BucketsBuilder, Filling};
 use daachorse_prefilter::skipping::Skipping;
 use daachorse_rows::rows::Rows;
 use daachorse_rows::view::RowView;
@@ -56,22 +56,22 @@ pub type RowedLeftmost<'a, V> = RowView<'a, V, states::LeftmostForRows<'a, V>>;
 pub struct Accelerated<'a, V: Copy, A: Allocator = Global> {
     automaton: &'a CharwiseDoubleArrayAhoCorasick<V, A>,
     rows: Rows<A>,
-    // Asked by searches in a text after the prefilter passes.
-    beginnings: Option<Beginnings<A>>,
+    // Asked by searches in a text ahead of the prefilter.
+    buckets: Option<Buckets<A>>,
 }
 
 impl<'a, V: Copy, A: Allocator> Model for Accelerated<'a, V, A> {
     ghost use Rattle.daachorse_charwise.specs.Accelerated.{Accelerated};
     ghost use Rattle.daachorse_charwise_states.specs.StateRows.{HasRows};
-    ghost use Rattle.daachorse_prefilter.specs.Beginnings.{MayTell};
+    ghost use Rattle.daachorse_prefilter.specs.Buckets.{MayTell};
     ghost use Rattle.daachorse_charwise.specs.Automata.{dictionary_of};
     ghost use Rattle.std.specs.Prelude.{encode_utf8_all};
 
     ghost Value = { Accelerated V };
 
-    ghost view = { λ s. record { automaton = s.automaton.now; rows = s.rows; beginnings = s.beginnings } };
+    ghost view = { λ s. record { automaton = s.automaton.now; rows = s.rows; buckets = s.buckets } };
 
-    ghost invariant = { λ s. HasRows s.automaton.now.parts s.rows × MayTell encode_utf8_all (dictionary_of s.automaton.now) s.beginnings };
+    ghost invariant = { λ s. HasRows s.automaton.now.parts s.rows × MayTell encode_utf8_all (dictionary_of s.automaton.now) s.buckets };
 }
 
 impl<V: Copy, A: Allocator + Copy> CharwiseDoubleArrayAhoCorasick<V, A> {
@@ -85,47 +85,61 @@ impl<V: Copy, A: Allocator + Copy> CharwiseDoubleArrayAhoCorasick<V, A> {
     /// Use it to search much text for up to some thousand words of few different characters. With
     /// many, as in 1,000 Japanese words, there is no room (`docs/SPEED.md`).
     ///
-    /// With a prefilter, at least 8,192 states and no pattern of less than four bytes, searches in
-    /// a text also ask a table of 8,192 bytes which four bytes patterns begin with. In all this
-    /// takes at most 256 KiB and two bytes for each element. Fails only if an allocation fails.
+    /// With a prefilter and no pattern of less than three bytes, searches in a text also ask eight
+    /// buckets of patterns, unless the shortest has six bytes and there are fewer than 1,024 states.
+    /// The rows take at most 256 KiB and two bytes for each element, and the buckets 64 KiB. Fails
+    /// only if an allocation fails.
     pub fn accelerate<'a>(&'a self, alloc: A) -> Result<Option<Accelerated<'a, V, A>>>
         ensures automaton { IfOk result (λ a. IfSome a (λ a. a.automaton ≡ self.entry.now)) }
         ensures covered { IfOk result (λ a. IfSome a HasRowsNear) }
         ensures stays { IfOk result (λ a. IfSome a (λ a. kind_of a.automaton ≡ Standard → HasFewCodes (states_of a.automaton) → IsAllRowsUnlessLarge a)) }
-        ensures told { IfOk result (λ a. IfSome a MayTellBeginnings) }
+        ensures told { IfOk result (λ a. IfSome a MayTellBuckets) }
         ensures none { IfOk result (λ a. a ≡ None → HasNoRoom (states_of self.entry.now)) }
         ensures err { IfErr result IsOutOfMemory }
     {
         let Some(rows) = self.states.rows(alloc)? else {
             return Ok(None);
         };
-        let beginnings = self.beginnings(alloc)?;
+        let buckets = self.buckets(alloc)?;
         Ok(Some(Accelerated {
             automaton: self,
             rows,
-            beginnings,
+            buckets,
         }))
     }
 
-    /// The table of pattern beginnings, if there is a prefilter and no pattern is too short. With
-    /// few states the prefilter passes at little else, and there is none.
-    fn beginnings(&self, alloc: A) -> Result<Option<Beginnings<A>>>
+    /// The buckets of the patterns, if there is a prefilter and they are ahead of it.
+    fn buckets(&self, alloc: A) -> Result<Option<Buckets<A>>>
         ensures told { IfOk result (MayTell encode_utf8_all (dictionary_of self.now)) }
         ensures err { IfErr result IsOutOfMemory }
     {
-        if self.filter.is_none() || self.num_states() < FEW_STATES {
+        if self.filter.is_none() {
             return Ok(None);
         }
-        let mut beginnings = Beginnings::new(alloc)?;
+        let mut filling = self.filling(alloc)?;
+        if !filling.is_worth(self.num_states()) {
+            return Ok(None);
+        }
+        let mut builder = BucketsBuilder::new(alloc)?;
         for item in self.iter(alloc)? {
             let (pattern, _value) = item?;
             let text = pattern.as_str();
-            if text.len() < BEGINNING {
-                return Ok(None);
-            }
-            beginnings.add(text.as_bytes());
+            let bucket = filling.next_bucket(text.len());
+            builder.add(text.as_bytes(), bucket);
         }
-        Ok(Some(beginnings))
+        Ok(Some(builder.close()))
+    }
+
+    /// How many patterns there are of each length.
+    fn filling(&self, alloc: A) -> Result<Filling>
+        ensures err { IfErr result IsOutOfMemory }
+    {
+        let mut filling = Filling::new();
+        for item in self.iter(alloc)? {
+            let (pattern, _value) = item?;
+            filling.count(pattern.as_str().len());
+        }
+        Ok(filling)
     }
 }
 
@@ -175,15 +189,15 @@ impl<'a, V: Copy, A: Allocator> Accelerated<'a, V, A> {
         self.rows.view(ForRows::new(self.automaton.leftmost()))
     }
 
-    /// The prefilter for a new search in a text, followed by the table of pattern beginnings.
+    /// The prefilter for a new search in a text, with the buckets ahead of it.
     #[inline(always)]
     fn skipping<'s>(&'s self) -> Skipping<'s, A>
-        ensures asks { BeginsAskingBoth self.entry.now.beginnings self.entry.now.automaton.filter result }
-        ensures sound { IsSoundFor (λ w. lets_pass (may_begin result.beginnings) result.filter (encode_utf8_all w)) (dictionary_of self.entry.now.automaton) }
+        ensures asks { BeginsAskingBoth self.entry.now.buckets self.entry.now.automaton.filter result }
+        ensures sound { IsSoundFor (λ w. lets_pass (may_begin result.buckets) result.filter (encode_utf8_all w)) (dictionary_of self.entry.now.automaton) }
     {
         self.automaton
             .skipping()
-            .with_beginnings(self.beginnings.as_ref())
+            .with_buckets(self.buckets.as_ref())
     }
 
     /// As [`CharwiseDoubleArrayAhoCorasick::find_iter`], over rows.
@@ -196,7 +210,7 @@ impl<'a, V: Copy, A: Allocator> Accelerated<'a, V, A> {
         requires { kind_of self.now.automaton ≡ Standard }
         ensures begins { BeginsWith (rowed_states self.entry.now) (as_read self.entry.now.automaton.folds (chars haystack.entry.now))
             (standard char_width (dictionary_of self.entry.now.automaton) (as_read self.entry.now.automaton.folds (chars haystack.entry.now))) result }
-        ensures asks { BeginsAskingBoth self.entry.now.beginnings self.entry.now.automaton.filter result.filter }
+        ensures asks { BeginsAskingBoth self.entry.now.buckets self.entry.now.automaton.filter result.filter }
     {
         find_in(
             self.standard(),
@@ -233,7 +247,7 @@ impl<'a, V: Copy, A: Allocator> Accelerated<'a, V, A> {
         requires { kind_of self.now.automaton ≡ Standard }
         ensures begins { BeginsWith (rowed_states self.entry.now) (as_read self.entry.now.automaton.folds (chars haystack.entry.now))
             (overlapping char_width (dictionary_of self.entry.now.automaton) (as_read self.entry.now.automaton.folds (chars haystack.entry.now))) result }
-        ensures asks { BeginsAskingBoth self.entry.now.beginnings self.entry.now.automaton.filter result.filter }
+        ensures asks { BeginsAskingBoth self.entry.now.buckets self.entry.now.automaton.filter result.filter }
     {
         find_overlapping_in(
             self.standard(),
@@ -270,7 +284,7 @@ impl<'a, V: Copy, A: Allocator> Accelerated<'a, V, A> {
         requires { kind_of self.now.automaton ≡ Standard }
         ensures begins { BeginsWith (rowed_states self.entry.now) (as_read self.entry.now.automaton.folds (chars haystack.entry.now))
             (no_suffix char_width (dictionary_of self.entry.now.automaton) (as_read self.entry.now.automaton.folds (chars haystack.entry.now))) result }
-        ensures asks { BeginsAskingBoth self.entry.now.beginnings self.entry.now.automaton.filter result.filter }
+        ensures asks { BeginsAskingBoth self.entry.now.buckets self.entry.now.automaton.filter result.filter }
     {
         find_overlapping_no_suffix_in(
             self.standard(),
@@ -307,7 +321,7 @@ impl<'a, V: Copy, A: Allocator> Accelerated<'a, V, A> {
         requires { kind_of self.now.automaton ≢ Standard }
         ensures begins { BeginsWith (rowed_states self.entry.now) (as_read self.entry.now.automaton.folds (chars haystack.entry.now))
             (leftmost char_width (dictionary_of self.entry.now.automaton) (as_read self.entry.now.automaton.folds (chars haystack.entry.now))) result }
-        ensures asks { BeginsAskingBoth self.entry.now.beginnings self.entry.now.automaton.filter result.filter }
+        ensures asks { BeginsAskingBoth self.entry.now.buckets self.entry.now.automaton.filter result.filter }
     {
         LeftmostMatches::with_filter(
             self.leftmost(),

@@ -5,7 +5,7 @@ use Rattle.daachorse_model.specs.Units.{byte_width}
 use Rattle.daachorse_model.specs.Matches.{no_suffix}
 use Rattle.daachorse_haystack.specs.Filters.{IsSoundFor}
 use Rattle.daachorse_prefilter.specs.Asked.{Asked, BeginsAsking, lets_pass}
-use Rattle.daachorse_prefilter.specs.Beginnings.{may_begin}
+use Rattle.daachorse_prefilter.specs.Buckets.{may_begin}
 use Rattle.daachorse_search.proofs.BeginningLaws.{BeginsWith-along}
 use Rattle.daachorse_bytewise_states.specs.Parts.{Parts, content}
 use Rattle.daachorse_bytewise.proofs.bytewise.DoubleArrayAhoCorasick.find_overlapping_no_suffix_iter.Goals as goal
@@ -13,7 +13,7 @@ use Rattle.daachorse_bytewise.proofs.bytewise.DoubleArrayAhoCorasick.find_overla
 -- the filter is sound for the states' dictionary
 pub find_overlapping_no_suffix_in-requires-clause-sound : goal.find_overlapping_no_suffix_in-requires-clause-sound
 find_overlapping_no_suffix_in-requires-clause-sound g c =
-    let P : Parts g.row.V.Denot → Type 0 = λ p. IsSoundFor (λ w. lets_pass (may_begin c.skipping.result.beginnings) c.skipping.result.filter w) (content p) in
+    let P : Parts g.row.V.Denot → Type 0 = λ p. IsSoundFor (λ w. lets_pass (may_begin c.skipping.result.buckets) c.skipping.result.filter w) (content p) in
     subst P (sym (c.standard.ensures ∙ ap (λ a. a.parts) c.self.view_is)) c.skipping.ensures.sound
 
 pub returns : goal.returns

@@ -6,13 +6,13 @@ use Rattle.daachorse_model.specs.Leftmost.{leftmost}
 use Rattle.daachorse_search.proofs.BeginningLaws.{BeginsWith-along}
 use Rattle.daachorse_haystack.specs.Filters.{IsSoundFor}
 use Rattle.daachorse_prefilter.specs.Asked.{Asked, BeginsAsking, lets_pass}
-use Rattle.daachorse_prefilter.specs.Beginnings.{may_begin}
+use Rattle.daachorse_prefilter.specs.Buckets.{may_begin}
 use Rattle.daachorse_bytewise_states.specs.Parts.{Parts, content}
 use Rattle.daachorse_bytewise.proofs.bytewise.DoubleArrayAhoCorasick.leftmost_find_iter.Goals as goal
 
 pub with_filter-requires-clause-sound : goal.with_filter-requires-clause-sound
 with_filter-requires-clause-sound g c =
-    let P : Parts g.row.V.Denot → Type 0 = λ p. IsSoundFor (λ w. lets_pass (may_begin c.skipping.result.beginnings) c.skipping.result.filter w) (content p) in
+    let P : Parts g.row.V.Denot → Type 0 = λ p. IsSoundFor (λ w. lets_pass (may_begin c.skipping.result.buckets) c.skipping.result.filter w) (content p) in
     subst P (sym (c.leftmost.ensures ∙ ap (λ a. a.parts) c.self.view_is)) c.skipping.ensures.sound
 
 pub returns : goal.returns

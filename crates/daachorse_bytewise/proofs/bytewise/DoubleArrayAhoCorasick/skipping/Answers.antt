@@ -1,9 +1,9 @@
 -- The filter passes at each pattern, and so wherever one is at the beginning of what is to come.
-use Rattle.std.proofs.Common.{Bool, List, Option, None, sym, ◌∙◌, subst}
+use Rattle.std.proofs.Common.{ℕ, List, Option, None, sym, ◌∙◌, subst}
 use Rattle.daachorse_prefilter.specs.Filters.{Filter}
 use Rattle.daachorse_haystack.specs.Filters.{IsSoundFor}
 use Rattle.daachorse_prefilter.specs.Asked.{BeginsAsking, lets_pass}
-use Rattle.daachorse_prefilter.specs.Beginnings.{may_begin}
+use Rattle.daachorse_prefilter.specs.Buckets.{may_begin}
 use Rattle.daachorse_prefilter.proofs.SoundFilters.{sound_bytes}
 use Rattle.daachorse_bytewise_states.specs.Parts.{content}
 use Rattle.daachorse_bytewise.specs.Automata.{Automaton}
@@ -13,11 +13,11 @@ pub returns : goal.returns
 returns g c = record {
   asks =
       let P : Automaton g.row.V.Denot → Type 0 = λ a. BeginsAsking a.filter c.new.result in
-      subst P c.self.view_is (record { filter = c.new.ensures.filter ∙ c.as_ref.ensures.value; beginnings = c.new.ensures.alone; gate = c.new.ensures.gate });
+      subst P c.self.view_is (record { filter = c.new.ensures.filter ∙ c.as_ref.ensures.value; buckets = c.new.ensures.alone; gate = c.new.ensures.gate; is_open = c.new.ensures.is_open });
   sound =
       let i = c.self.inside in
-      let P : Automaton g.row.V.Denot → Type 0 = λ a. IsSoundFor (λ w. lets_pass (may_begin c.new.result.beginnings) c.new.result.filter w) (content a.parts) in
-      let M : Option (List Bool) → Type 0 = λ m. IsSoundFor (λ w. lets_pass (may_begin m) c.new.result.filter w) (content i.states) in
+      let P : Automaton g.row.V.Denot → Type 0 = λ a. IsSoundFor (λ w. lets_pass (may_begin c.new.result.buckets) c.new.result.filter w) (content a.parts) in
+      let M : Option (List ℕ) → Type 0 = λ m. IsSoundFor (λ w. lets_pass (may_begin m) c.new.result.filter w) (content i.states) in
       let Q : Option Filter → Type 0 = λ f. IsSoundFor (λ w. lets_pass (may_begin None) f w) (content i.states) in
       subst P c.self.view_is (subst M (sym c.new.ensures.alone) (subst Q (sym (c.new.ensures.filter ∙ c.as_ref.ensures.value)) (sound_bytes (content i.states) i.filter c.self.invariant.filter)));
 }

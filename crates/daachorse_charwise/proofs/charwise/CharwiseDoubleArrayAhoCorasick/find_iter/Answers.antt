@@ -7,7 +7,7 @@ use Rattle.daachorse_model.specs.Units.{char_width}
 use Rattle.daachorse_model.specs.Matches.{standard}
 use Rattle.daachorse_haystack.specs.Filters.{IsSoundFor}
 use Rattle.daachorse_prefilter.specs.Asked.{Asked, BeginsAsking, lets_pass}
-use Rattle.daachorse_prefilter.specs.Beginnings.{may_begin}
+use Rattle.daachorse_prefilter.specs.Buckets.{may_begin}
 use Rattle.daachorse_search.proofs.BeginningLaws.{BeginsWith-along}
 use Rattle.daachorse_charwise_states.specs.Parts.{Parts, content}
 use Rattle.daachorse_charwise.proofs.charwise.CharwiseDoubleArrayAhoCorasick.find_iter.Goals as goal
@@ -15,7 +15,7 @@ use Rattle.daachorse_charwise.proofs.charwise.CharwiseDoubleArrayAhoCorasick.fin
 -- the filter is sound for the states' dictionary
 pub find_in-requires-clause-sound : goal.find_in-requires-clause-sound
 find_in-requires-clause-sound g c =
-    let P : Parts g.row.V.Denot → Type 0 = λ p. IsSoundFor (λ w. lets_pass (may_begin c.skipping.result.beginnings) c.skipping.result.filter (encode_utf8_all w)) (content p) in
+    let P : Parts g.row.V.Denot → Type 0 = λ p. IsSoundFor (λ w. lets_pass (may_begin c.skipping.result.buckets) c.skipping.result.filter (encode_utf8_all w)) (content p) in
     subst P (sym (c.standard.ensures ∙ ap (λ a. a.parts) c.self.view_is)) c.skipping.ensures.sound
 
 pub returns : goal.returns

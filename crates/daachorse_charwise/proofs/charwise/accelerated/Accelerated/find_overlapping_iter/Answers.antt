@@ -5,14 +5,14 @@ use Rattle.daachorse_model.specs.Units.{char_width}
 use Rattle.daachorse_model.specs.Matches.{overlapping}
 use Rattle.daachorse_rows.proofs.RowedLaws.{begins_rowed}
 use Rattle.daachorse_prefilter.specs.Asked.{lets_pass}
-use Rattle.daachorse_prefilter.specs.Beginnings.{may_begin}
+use Rattle.daachorse_prefilter.specs.Buckets.{may_begin}
 use Rattle.daachorse_charwise_states.specs.Parts.{content}
 use Rattle.daachorse_charwise.specs.Accelerated.{rowed_states}
 use Rattle.daachorse_charwise.proofs.RowedLaws.{sound_rowed}
 use Rattle.daachorse_charwise.proofs.charwise.accelerated.Accelerated.find_overlapping_iter.Goals as goal
 
 pub find_overlapping_in-requires-clause-sound : goal.find_overlapping_in-requires-clause-sound
-find_overlapping_in-requires-clause-sound g c = sound_rowed c.args.self.now c.standard.result (λ w. lets_pass (may_begin c.skipping.result.beginnings) c.skipping.result.filter (encode_utf8_all w)) c.standard.ensures c.skipping.ensures.sound
+find_overlapping_in-requires-clause-sound g c = sound_rowed c.args.self.now c.standard.result (λ w. lets_pass (may_begin c.skipping.result.buckets) c.skipping.result.filter (encode_utf8_all w)) c.standard.ensures c.skipping.ensures.sound
 
 pub returns-clause-begins : goal.returns-clause-begins
 returns-clause-begins g c =

@@ -1,10 +1,10 @@
 -- The patterns that are left are to be marked still, and those before them are marked.
 use Rattle.std.specs.Prelude.{encode_utf8_all}
-use Rattle.daachorse_prefilter.proofs.BeginningLaws.{AreMarkedSoFar}
+use Rattle.daachorse_prefilter.proofs.BucketLaws.{AreMarkedSoFar}
 use Rattle.daachorse_charwise.specs.Automata.{dictionary_of}
-use Rattle.daachorse_charwise.proofs.charwise.CharwiseDoubleArrayAhoCorasick.beginnings.Given as goal
+use Rattle.daachorse_charwise.proofs.charwise.CharwiseDoubleArrayAhoCorasick.buckets.Given as goal
 
 abbrev pub invariant-loop-item : goal.invariant-loop-item
 invariant-loop-item g l = record {
-  so_far : AreMarkedSoFar encode_utf8_all (dictionary_of l.self) l.item-iterator l.beginnings;
+  so_far : AreMarkedSoFar encode_utf8_all (dictionary_of l.self) l.item-iterator l.builder.entries.items l.builder.mask;
 }

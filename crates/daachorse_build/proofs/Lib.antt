@@ -1,3 +1,4 @@
+pub mod Failures
 pub mod EdgeLists
 pub mod Walks
 pub mod LeftLinks

@@ -1,7 +1,7 @@
 -- The pattern was added to the trie, so it is registered; where no id was free, there are too many prefixes. A pattern that extends a key is registered where nothing changes.
 use Rattle.std.proofs.Common.{rules, ◌≡◌, ◌≤◌, ◌+◌, ◌⊎◌, true, false, List, length, map, sym, ap, ◌∙◌, inl, inr, arith, ◌++◌, ◌∷◌, [], ℕ}
 use Rattle.std.proofs.lemmas.List.{length_push}
-use Rattle.std.proofs.lemmas.Result.{err_from_is_err_and, IfOk-from_err}
+use Rattle.std.proofs.lemmas.Result.{err_from_is_err_and}
 use Rattle.std.specs.declared.cmp.Ordering.{Ordering}
 use Rattle.daachorse_model.specs.declared.MatchKind.{MatchKind}
 use Rattle.daachorse_model.specs.Units.{size}
@@ -92,9 +92,3 @@ returns-then-extends_key-clause-added g c = rw (← c.self.view_is) (
       short = rw (← c.in_ok-size.ensures.size) (search rules);
       fits = λ few. few;
     })
-
-pub returns-in_err-size-clause-added : goal.returns-in_err-size-clause-added
-returns-in_err-size-clause-added g c = IfOk-from_err c.from_residual.result _ c.from_residual.ensures.0
-
-pub returns-in_err-add_pattern-clause-added : goal.returns-in_err-add_pattern-clause-added
-returns-in_err-add_pattern-clause-added g c = IfOk-from_err c.from_residual-in_err-add_pattern.result _ c.from_residual-in_err-add_pattern.ensures.0

@@ -7,7 +7,6 @@ use Rattle.std.proofs.lemmas.List.Elements.{All-weaker}
 use Rattle.std.proofs.lemmas.Fn.{always_returns_same}
 use Rattle.std.proofs.lemmas.Map.Keys.{ge_from_not_lt}
 use Rattle.std.proofs.lemmas.Grind.{common_steps}
-use Rattle.std.proofs.lemmas.Result.{IfOk-from_err}
 use Rattle.std.specs.Cmp.{IsTotalOrder}
 use Rattle.std.specs.declared.cmp.Ordering.{Ordering}
 use Rattle.std.specs.declared.cmp.Reverse.{Reverse}
@@ -70,9 +69,3 @@ returns-clause-groups g c =
 
 pub groups_of-requires-clause-profile : goal.groups_of-requires-clause-profile
 groups_of-requires-clause-profile g c = grind (arith, common_steps)
-
-pub returns-in_err-groups-clause-groups : goal.returns-in_err-groups-clause-groups
-returns-in_err-groups-clause-groups g c = IfOk-from_err c.from_residual.result _ c.from_residual.ensures.0
-
-pub returns-in_err-sort_by_key-clause-groups : goal.returns-in_err-sort_by_key-clause-groups
-returns-in_err-sort_by_key-clause-groups g c = IfOk-from_err c.from_residual-in_err-sort_by_key.result _ c.from_residual-in_err-sort_by_key.ensures.0

@@ -4,7 +4,7 @@ use Rattle.std.proofs.lemmas.List.{take_more, take_all, drop_more, take-append-d
 use Rattle.daachorse_build.specs.Tables.{child_of, edges_of}
 use Rattle.daachorse_build.proofs.States.{adding_start, adding_more, added, leads_low, output_pushed, map_stays}
 use Rattle.daachorse_build.proofs.Labels.{label_exact}
-use Rattle.std.proofs.lemmas.Result.{err_from_is_err_and, IfOk-from_err}
+use Rattle.std.proofs.lemmas.Result.{err_from_is_err_and}
 use Rattle.daachorse_core.specs.declared.errors.Limit.TheVariants.{StateId}
 use Rattle.std.specs.declared.cmp.Ordering.{Ordering}
 use Rattle.daachorse_build.specs.declared.nfa_builder.NfaBuilderState.{NfaBuilderState}
@@ -80,15 +80,3 @@ returns-in_err-push-clause-trie g c =
     let x = c.index_mut.result.now in
     let i = c.loop-label.invariant.0 in
     rw (edges_stay g.L.Ord.cmp c.args.states.now.items c.loop-label.states.items _ c.loop-label.id i x (record x { output = c.push.new.self }) c.index_mut.ensures.value refl) i.trie
-
-pub returns-in_err-id-clause-ok : goal.returns-in_err-id-clause-ok
-returns-in_err-id-clause-ok g c = IfOk-from_err c.from_residual.result _ c.from_residual.ensures.0
-
-pub returns-in_err-id-clause-fits : goal.returns-in_err-id-clause-fits
-returns-in_err-id-clause-fits g c = IfOk-from_err c.from_residual.result _ c.from_residual.ensures.0
-
-pub returns-in_err-push-clause-ok : goal.returns-in_err-push-clause-ok
-returns-in_err-push-clause-ok g c = IfOk-from_err c.from_residual-in_err-push.result _ c.from_residual-in_err-push.ensures.0
-
-pub returns-in_err-push-clause-fits : goal.returns-in_err-push-clause-fits
-returns-in_err-push-clause-fits g c = IfOk-from_err c.from_residual-in_err-push.result _ c.from_residual-in_err-push.ensures.0

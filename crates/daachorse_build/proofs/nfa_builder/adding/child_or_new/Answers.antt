@@ -1,6 +1,6 @@
 -- A new state is the one child of its parent by the label. Where the edge is refused, the states keep theirs.
 use Rattle.std.proofs.Common.{rules, ◌≡◌, ◌<◌, List, [], ◌∷◌, ◌++◌, get_or, length, set, None, ap, ◌∙◌, subst, arith}
-use Rattle.std.proofs.lemmas.Result.{err_from_is_err_and, IfOk-from_err}
+use Rattle.std.proofs.lemmas.Result.{err_from_is_err_and}
 use Rattle.std.proofs.lemmas.Grind.{common_steps}
 use Rattle.daachorse_build.specs.declared.nfa_builder.NfaBuilderState.{NfaBuilderState}
 use Rattle.daachorse_build.specs.Tables.{child_of, edges_of}
@@ -31,21 +31,3 @@ returns-in_err-insert-clause-kept g c =
 
 pub returns-in-Some-clause-ok : goal.returns-in-Some-clause-ok
 returns-in-Some-clause-ok g c = grind (arith, common_steps)
-
-pub returns-in_err-reserve-clause-ok : goal.returns-in_err-reserve-clause-ok
-returns-in_err-reserve-clause-ok g c = IfOk-from_err c.from_residual.result _ c.from_residual.ensures.0
-
-pub returns-in_err-reserve-clause-fits : goal.returns-in_err-reserve-clause-fits
-returns-in_err-reserve-clause-fits g c = IfOk-from_err c.from_residual.result _ c.from_residual.ensures.0
-
-pub returns-in_err-insert-clause-ok : goal.returns-in_err-insert-clause-ok
-returns-in_err-insert-clause-ok g c = IfOk-from_err c.from_residual-in_err-insert.result _ c.from_residual-in_err-insert.ensures.0
-
-pub returns-in_err-insert-clause-fits : goal.returns-in_err-insert-clause-fits
-returns-in_err-insert-clause-fits g c = IfOk-from_err c.from_residual-in_err-insert.result _ c.from_residual-in_err-insert.ensures.0
-
-pub returns-in_err-push-clause-ok : goal.returns-in_err-push-clause-ok
-returns-in_err-push-clause-ok g c = IfOk-from_err c.from_residual-in_err-push.result _ c.from_residual-in_err-push.ensures.0
-
-pub returns-in_err-push-clause-fits : goal.returns-in_err-push-clause-fits
-returns-in_err-push-clause-fits g c = IfOk-from_err c.from_residual-in_err-push.result _ c.from_residual-in_err-push.ensures.0

@@ -2,7 +2,6 @@
 use Rattle.std.proofs.Common.{◌≡◌, ◌<◌, ℕ, List, [], length, get_or, subst, sym, ap, ◌∙◌, arith}
 use Rattle.std.specs.Prelude.{Bool, not, ◌&&◌, ◌==◌}
 use Rattle.std.proofs.lemmas.List.{length-map}
-use Rattle.std.proofs.lemmas.Result.{IfOk-from_err}
 use Rattle.std.specs.declared.cmp.Ordering.{Ordering}
 use Rattle.daachorse_build.specs.Tables.{edges_of, fails_of, own_of, own_at, stops_of}
 use Rattle.daachorse_build.specs.Orders.{IsLeftLinked}
@@ -43,9 +42,3 @@ returns-clause-links g c =
 pub set_links-requires : goal.set_links-requires
 set_links-requires g c =
     omega (arith, ap length c.deref.ensures.value, c.loop-traversal.invariant.traversal.one_each, length-map c.args.states.now (λ s. s.edges))
-
-pub returns-in_err-traversal-clause-links : goal.returns-in_err-traversal-clause-links
-returns-in_err-traversal-clause-links g c = IfOk-from_err c.from_residual.result _ c.from_residual.ensures.0
-
-pub returns-in_err-expand-clause-links : goal.returns-in_err-expand-clause-links
-returns-in_err-expand-clause-links g c = IfOk-from_err c.from_residual-in_err-expand.result _ c.from_residual-in_err-expand.ensures.0

@@ -3,7 +3,6 @@ use Rattle.std.proofs.Common.{rules, ◌≡◌, ◌<◌, ◌+◌, ◌-◌, [], �
 use Rattle.std.proofs.lemmas.List.{drop_more, length_push}
 use Rattle.std.proofs.lemmas.Grind.{common_steps}
 use Rattle.std.proofs.lemmas.Option.{get_or_from_slice_get}
-use Rattle.std.proofs.lemmas.Result.{IfOk-from_err}
 use Rattle.daachorse_core.specs.Outputs.{parent_of}
 use Rattle.daachorse_build.specs.Few.{items_of}
 use Rattle.daachorse_build.proofs.OutputChains.{outputs_at-push, ParentsFall-push}
@@ -44,6 +43,3 @@ returns-clause-chain g c =
     let i = c.loop-i.invariant in
     let none : c.loop-i.i ≡ 0 = omega arith in
     record { count = omega (arith, i.count); few = i.few; fits = i.fits; list = rw none at i.list; passes = rw none at i.passes }
-
-pub returns-in_err-push-clause-chain : goal.returns-in_err-push-clause-chain
-returns-in_err-push-clause-chain g c = IfOk-from_err c.from_residual.result _ c.from_residual.ensures.0

@@ -2,9 +2,7 @@
 use Rattle.std.proofs.Common.{◌≡◌, ◌<◌, ℕ, not, List, [], ◌∷◌, ◌++◌, length, get_or, refl, sym, ap, ◌∙◌, subst, arith}
 use Rattle.std.proofs.lemmas.List.{length-map, append-nil}
 use Rattle.std.proofs.lemmas.List.Elements.{All-push}
-use Rattle.std.proofs.lemmas.Result.{IfOk-from_err}
 use Rattle.std.specs.Map.{values_of}
-use Rattle.daachorse_core.proofs.Refusals.{at_error}
 use Rattle.daachorse_build.specs.declared.nfa_builder.NfaBuilderState.{NfaBuilderState}
 use Rattle.std.specs.declared.cmp.Ordering.{Ordering}
 use Rattle.std.specs.Cmp.{IsTotalOrder}
@@ -136,23 +134,3 @@ returns-clause-parents g c =
     let zero' : length c.loop-id.stack.items ≡ 0 = omega (arith, c.in_default.ensures.cases.0) in
     let none = nothing c.loop-id.stack.items zero' in
     (walk.0, walk_end g.L.Ord.cmp g.met.L.Ord.total edges c.requires.trie walk.0 (subst P none walk.1), walk.2)
-
-pub returns-in_err-push : goal.returns-in_err-push
-returns-in_err-push g c =
-    let e = c.from_residual.ensures in
-    record { parents = IfOk-from_err _ _ e.0; families = IfOk-from_err _ _ e.0; weights = IfOk-from_err _ _ e.0; err = at_error _ _ _ e.1 refl }
-
-pub returns-in_err-put_children : goal.returns-in_err-put_children
-returns-in_err-put_children g c =
-    let e = c.from_residual-in_err-put_children.ensures in
-    record { parents = IfOk-from_err _ _ e.0; families = IfOk-from_err _ _ e.0; weights = IfOk-from_err _ _ e.0; err = at_error _ _ _ e.1 c.in_err-put_children.ensures.err }
-
-pub returns-in_err-group_of : goal.returns-in_err-group_of
-returns-in_err-group_of g c =
-    let e = c.from_residual-in_err-group_of.ensures in
-    record { parents = IfOk-from_err _ _ e.0; families = IfOk-from_err _ _ e.0; weights = IfOk-from_err _ _ e.0; err = at_error _ _ _ e.1 c.in_err-group_of.ensures.err }
-
-pub returns-in_err-push-2 : goal.returns-in_err-push-2
-returns-in_err-push-2 g c =
-    let e = c.from_residual-in_err-push-2.ensures in
-    record { parents = IfOk-from_err _ _ e.0; families = IfOk-from_err _ _ e.0; weights = IfOk-from_err _ _ e.0; err = at_error _ _ _ e.1 refl }

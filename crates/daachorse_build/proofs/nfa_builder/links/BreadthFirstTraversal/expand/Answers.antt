@@ -2,7 +2,6 @@
 use Rattle.std.proofs.Common.{◌≡◌, ℕ, ◌<◌, List, [], ◌∷◌, ◌++◌, length, take, get_or, Contains, refl, sym, ◌∙◌, subst, arith}
 use Rattle.std.proofs.lemmas.List.{length-map, get_or_read, length_push, get_or_append_left, take-append-le}
 use Rattle.std.proofs.lemmas.List.Elements.{Contains-get_or}
-use Rattle.std.proofs.lemmas.Result.{IfOk-from_err}
 use Rattle.std.specs.declared.cmp.Ordering.{Ordering}
 use Rattle.daachorse_build.specs.Tables.{edges_of, stops_of}
 use Rattle.daachorse_build.specs.Orders.{IsLinkAmong}
@@ -109,9 +108,3 @@ pub offset_bounds-states-id : goal.offset_bounds-states-id
 offset_bounds-states-id g c =
     let left = left_is g.L.Ord.cmp c.args.states.now c.args.self.now [] c.index-id.result.now c.requires.traversal (omega arith) c.index-id.ensures in
     omega (arith, left.3)
-
-pub returns-in_err-push-clause-traversal : goal.returns-in_err-push-clause-traversal
-returns-in_err-push-clause-traversal g c = IfOk-from_err c.from_residual.result _ c.from_residual.ensures.0
-
-pub returns-in_err-push-clause-next : goal.returns-in_err-push-clause-next
-returns-in_err-push-clause-next g c = IfOk-from_err c.from_residual.result _ c.from_residual.ensures.0

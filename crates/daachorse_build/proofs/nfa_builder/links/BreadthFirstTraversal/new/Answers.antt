@@ -1,8 +1,6 @@
 -- One child of the root more is in the queue, with its link.
-use Rattle.std.proofs.Common.{refl, ◌≡◌, ◌<◌, length, replicate, sym, inl, inr, arith}
+use Rattle.std.proofs.Common.{◌≡◌, ◌<◌, length, replicate, sym, inl, inr, arith}
 use Rattle.std.proofs.lemmas.List.{length-map, length_push}
-use Rattle.std.proofs.lemmas.Result.{IfOk-from_err}
-use Rattle.daachorse_core.proofs.Refusals.{at_error}
 use Rattle.daachorse_build.specs.Tables.{edges_of, stops_of}
 use Rattle.daachorse_build.proofs.EdgeTurns.{edge_read, all_read}
 use Rattle.daachorse_build.proofs.Queue.{traversal_start, traversal_first, child_at_place}
@@ -57,18 +55,3 @@ returns-clause-traversal g c =
 
 pub bounds-states-root : goal.bounds-states-root
 bounds-states-root g c = omega (arith, c.requires.trie.two, length-map c.args.states.now (λ s. s.edges))
-
-pub returns-in_err-links : goal.returns-in_err-links
-returns-in_err-links g c =
-    let e = c.from_residual.ensures in
-    record { traversal = IfOk-from_err _ _ e.0; kind = IfOk-from_err _ _ e.0; root = IfOk-from_err _ _ e.0; err = at_error _ _ _ e.1 refl }
-
-pub returns-in_err-order : goal.returns-in_err-order
-returns-in_err-order g c =
-    let e = c.from_residual-in_err-order.ensures in
-    record { traversal = IfOk-from_err _ _ e.0; kind = IfOk-from_err _ _ e.0; root = IfOk-from_err _ _ e.0; err = at_error _ _ _ e.1 refl }
-
-pub returns-in_err-push : goal.returns-in_err-push
-returns-in_err-push g c =
-    let e = c.from_residual-in_err-push.ensures in
-    record { traversal = IfOk-from_err _ _ e.0; kind = IfOk-from_err _ _ e.0; root = IfOk-from_err _ _ e.0; err = at_error _ _ _ e.1 refl }

@@ -1,5 +1,4 @@
 //! Adding a pattern to a trie.
-#![tactic(auto, using(crate::proofs::Failures::failures))]
 
 ghost use Rattle.std.specs.Prelude.{◌≡◌, ◌≢◌, ◌<◌, ◌≤◌, None, true, map, vec_len, IfOk, IfErr, OnOk, OnErr};
 ghost use Rattle.daachorse_model.specs.Units.{size};

@@ -1,5 +1,4 @@
 //! The failure links of a trie's states, standard or leftmost.
-#![tactic(auto, using(crate::proofs::Failures::failures))]
 
 ghost use Rattle.std.specs.Prelude.{◌≡◌, ◌+◌, ◌<◌, ℕ, false, [], List, Some, length, take, vec_len, IfOk, IfErr, OnOk};
 ghost use Rattle.daachorse_core.specs.Refusals.{IsOutOfMemory};

@@ -1,5 +1,4 @@
 //! The lists of outputs of a trie's states, which share their tails.
-#![tactic(auto, using(crate::proofs::Failures::failures))]
 
 ghost use Rattle.std.specs.Prelude.{◌≡◌, ◌≢◌, ◌+◌, ◌<◌, ◌≤◌, ◌++◌, ℕ, Bool, [], List, length, slice_index, vec_len, IfOk, IfErr, OnOk};
 ghost use Rattle.daachorse_core.specs.Outputs.{ParentsFall};

@@ -1,5 +1,4 @@
 //! The groups of siblings of a trie: each parent with its children.
-#![tactic(auto, using(crate::proofs::Failures::failures))]
 
 ghost use Rattle.std.specs.Prelude.{◌≡◌, ℕ, ◌<◌, ◌++◌, List, length, filter, IfOk, IfErr, OnOk};
 ghost use Rattle.std.specs.Map.{values_of};

@@ -1,7 +1,7 @@
 -- One position is written, and nothing else in the states changes.
 use Rattle.std.proofs.Common.{◌≡◌, ◌<◌, ℕ, List, [], length, get_or, refl, sym, ap, ◌∙◌, subst, arith, get_or-set_same, get_or-set_other}
 use Rattle.std.proofs.lemmas.List.{length-map, get_or-map, set-get_or}
-use Rattle.std.proofs.lemmas.Result.{err_from_is_err_and, IfOk-from_err}
+use Rattle.std.proofs.lemmas.Result.{err_from_is_err_and}
 use Rattle.daachorse_build.specs.declared.nfa_builder.NfaBuilderState.{NfaBuilderState}
 use Rattle.daachorse_build.specs.Lists.{HasChain}
 use Rattle.daachorse_build.specs.Tables.{edges_of, fails_of, own_at, own_of, positions_of}
@@ -19,21 +19,19 @@ push_chain-requires g c = record {
   parent = c.requires.parent;
 }
 
-pub returns-in_err-state : goal.returns-in_err-state
-returns-in_err-state g c = record {
-  kept =
-      let same = set-get_or c.args.states.now c.args.id c.index-states-id.result in
-      record { edges = ap edges_of same; outputs = ap own_of same };
-  fails = ap fails_of (set-get_or c.args.states.now c.args.id c.index-states-id.result);
-  longer = c.push_chain.ensures.longer;
-  parents = c.push_chain.ensures.parents;
-  chain = IfOk-from_err c.from_residual.result _ c.from_residual.ensures.0;
-  others = IfOk-from_err c.from_residual.result _ c.from_residual.ensures.0;
-  err =
-      let p = err_from_is_err_and c.from_residual.result c.from_residual.ensures.1 in
-      let own = own_here c.args.states.now c.args.id c.index-states-id.result _ c.requires.id refl in
-      rw (p.1, p.2) (rw own c.in_err-state.ensures.err);
-}
+pub returns-in_err-state-clause-kept : goal.returns-in_err-state-clause-kept
+returns-in_err-state-clause-kept g c =
+    let same = set-get_or c.args.states.now c.args.id c.index-states-id.result in
+    record { edges = ap edges_of same; outputs = ap own_of same }
+
+pub returns-in_err-state-clause-fails : goal.returns-in_err-state-clause-fails
+returns-in_err-state-clause-fails g c = ap fails_of (set-get_or c.args.states.now c.args.id c.index-states-id.result)
+
+pub returns-in_err-state-clause-err : goal.returns-in_err-state-clause-err
+returns-in_err-state-clause-err g c =
+    let p = err_from_is_err_and c.from_residual.result c.from_residual.ensures.1 in
+    let own = own_here c.args.states.now c.args.id c.index-states-id.result _ c.requires.id refl in
+    rw (p.1, p.2) (rw own c.in_err-state.ensures.err)
 
 pub returns-clause-kept : goal.returns-clause-kept
 returns-clause-kept g c =

@@ -3,7 +3,7 @@ use Rattle.std.proofs.Common.{◌≡◌, ◌<◌, ◌≤◌, ◌+◌, ℕ, Bool,
 use Rattle.std.proofs.lemmas.List.{length-map, take_more, take_all}
 use Rattle.std.proofs.lemmas.List.Elements.{Contains-get_or}
 use Rattle.std.proofs.lemmas.Map.Made.{Contains-tail}
-use Rattle.std.proofs.lemmas.Result.{err_from_is_err_and, IfOk-from_err}
+use Rattle.std.proofs.lemmas.Result.{err_from_is_err_and}
 use Rattle.std.specs.declared.cmp.Ordering.{Ordering}
 use Rattle.std.specs.declared.cmp.Ordering.TheVariants.{Equal}
 use Rattle.std.specs.Cmp.{IsTotalOrder}
@@ -144,37 +144,28 @@ returns-clause-lists g c =
       few = i.few;
     }
 
-pub returns-in_err-put_list : goal.returns-in_err-put_list
-returns-in_err-put_list g c = record {
-  kept = c.put_list.ensures.kept;
-  fails = c.put_list.ensures.fails;
-  parents = c.put_list.ensures.parents;
-  err =
-      let p = err_from_is_err_and c.from_residual.result c.from_residual.ensures.1 in
-      let states = c.args.states.now in
-      let two : 0 < length (own_of states) = omega (arith, c.requires.trie.trie.two, length-map states (λ s. s.edges), length-map states (λ s. items_of s.output)) in
-      let count = count-cleared (own_of states) [] 0 two (λ h. omega (arith, h.1)) in
-      let none = ap length c.requires.unbuilt in
-      let fewer : 4294967295 < vec_len c.args.outputs.now + length (own_at (own_of states) 0) → 4294967295 < output_count (own_of states) = λ h. omega (arith, h, count, none) in
-      rw (p.1, p.2) (IsRefusal-weaker ⊥ ⊥ Outputs _ (4294967295 < output_count (own_of states)) (λ x. x) fewer _ c.in_err-put_list.ensures.err);
-  lists = IfOk-from_err c.from_residual.result _ c.from_residual.ensures.0;
-}
+pub returns-in_err-put_list-clause-err : goal.returns-in_err-put_list-clause-err
+returns-in_err-put_list-clause-err g c =
+    let p = err_from_is_err_and c.from_residual.result c.from_residual.ensures.1 in
+    let states = c.args.states.now in
+    let two : 0 < length (own_of states) = omega (arith, c.requires.trie.trie.two, length-map states (λ s. s.edges), length-map states (λ s. items_of s.output)) in
+    let count = count-cleared (own_of states) [] 0 two (λ h. omega (arith, h.1)) in
+    let none = ap length c.requires.unbuilt in
+    let fewer : 4294967295 < vec_len c.args.outputs.now + length (own_at (own_of states) 0) → 4294967295 < output_count (own_of states) = λ h. omega (arith, h, count, none) in
+    rw (p.1, p.2) (IsRefusal-weaker ⊥ ⊥ Outputs _ (4294967295 < output_count (own_of states)) (λ x. x) fewer _ c.in_err-put_list.ensures.err)
 
-pub returns-in_err-put_list-2 : goal.returns-in_err-put_list-2
-returns-in_err-put_list-2 g c = record {
-  err =
-      let p = err_from_is_err_and c.from_residual-in_err-put_list-2.result c.from_residual-in_err-put_list-2.ensures.1 in
-      let states = c.args.states.now in
-      let i = c.loop-id.invariant in
-      let t = get_or c.args.order.now c.loop-id.id-index 0 in
-      let own : length (own_at (own_of c.loop-id.states) t) ≡ length (own_at (own_of states) t) = ap (λ os. length (own_at os t)) i.kept.outputs in
-      let next = count_next g.L.Ord.cmp g.met.L.Ord.total (label_exact g.L.EdgeLabel.unit g.L.Ord.cmp g.met.L.EdgeLabel.exact g.met.L.EdgeLabel.by_unit) c.args.states.now c.loop-id.states c.args.order.now c.requires.trie (stops_of c.requires.links.0 c.args.states.now) c.requires.links.1 c.loop-id.invariant.kept c.loop-id.id-index c.loop-id-test.true in
-      let fewer : 4294967295 < vec_len c.loop-id.outputs + length (own_at (own_of c.loop-id.states) t) → 4294967295 < output_count (own_of states) = λ h. omega (arith, h, own, next, i.count) in
-      rw (p.1, p.2) (IsRefusal-weaker ⊥ ⊥ Outputs _ (4294967295 < output_count (own_of states)) (λ x. x) fewer _ c.in_err-put_list-2.ensures.err);
-  kept =
-      let e = c.in_err-put_list-2.ensures in
-      record { edges = e.kept.edges ∙ c.loop-id.invariant.kept.edges; outputs = e.kept.outputs ∙ c.loop-id.invariant.kept.outputs };
-  fails = c.in_err-put_list-2.ensures.fails ∙ c.loop-id.invariant.fails;
-  parents = c.put_list-in-loop-id.ensures.parents;
-  lists = IfOk-from_err c.from_residual-in_err-put_list-2.result _ c.from_residual-in_err-put_list-2.ensures.0;
-}
+pub returns-in_err-put_list-2-clause-err : goal.returns-in_err-put_list-2-clause-err
+returns-in_err-put_list-2-clause-err g c =
+    let p = err_from_is_err_and c.from_residual-in_err-put_list-2.result c.from_residual-in_err-put_list-2.ensures.1 in
+    let states = c.args.states.now in
+    let i = c.loop-id.invariant in
+    let t = get_or c.args.order.now c.loop-id.id-index 0 in
+    let own : length (own_at (own_of c.loop-id.states) t) ≡ length (own_at (own_of states) t) = ap (λ os. length (own_at os t)) i.kept.outputs in
+    let next = count_next g.L.Ord.cmp g.met.L.Ord.total (label_exact g.L.EdgeLabel.unit g.L.Ord.cmp g.met.L.EdgeLabel.exact g.met.L.EdgeLabel.by_unit) c.args.states.now c.loop-id.states c.args.order.now c.requires.trie (stops_of c.requires.links.0 c.args.states.now) c.requires.links.1 c.loop-id.invariant.kept c.loop-id.id-index c.loop-id-test.true in
+    let fewer : 4294967295 < vec_len c.loop-id.outputs + length (own_at (own_of c.loop-id.states) t) → 4294967295 < output_count (own_of states) = λ h. omega (arith, h, own, next, i.count) in
+    rw (p.1, p.2) (IsRefusal-weaker ⊥ ⊥ Outputs _ (4294967295 < output_count (own_of states)) (λ x. x) fewer _ c.in_err-put_list-2.ensures.err)
+
+pub returns-in_err-put_list-2-clause-kept : goal.returns-in_err-put_list-2-clause-kept
+returns-in_err-put_list-2-clause-kept g c =
+    let e = c.in_err-put_list-2.ensures in
+    record { edges = e.kept.edges ∙ c.loop-id.invariant.kept.edges; outputs = e.kept.outputs ∙ c.loop-id.invariant.kept.outputs }

@@ -1,4 +1,3 @@
-pub mod Failures
 pub mod EdgeLists
 pub mod Walks
 pub mod LeftLinks

@@ -1,5 +1,5 @@
 //! The trie of the patterns, with its failure links and its lists of outputs.
-#![tactic(auto, using(crate::proofs::Failures::failures))]
+#![tactic(auto, using(daachorse_core::proofs::Failures::failures))]
 
 ghost use Rattle.std.specs.Prelude.{◌≡◌, true, false, Some, ◌+◌, ◌<◌, ◌≤◌, [], length, map, IfOk, IfErr, OnOk};
 ghost use Rattle.daachorse_model.specs.Units.{size};

@@ -1,5 +1,5 @@
 -- What callers see of an automaton over characters with rows: the automaton, the rows of its states near the root, and the buckets of its patterns, if there are some.
-use Rattle.std.specs.Prelude.{Bool, List, Option, encode_utf8_all}
+use Rattle.std.specs.Prelude.{ℕ, List, Option, encode_utf8_all}
 use Rattle.daachorse_rows.specs.Rows.{RowTable, Rowed}
 use Rattle.daachorse_charwise_states.specs.Parts.{Parts}
 use Rattle.daachorse_charwise_states.specs.StateRows.{CoversNear, StaysInRows, StaysUnlessLarge}

@@ -38,7 +38,7 @@ pub record HasClear (state n : ℕ) : Type 0 where
   pub below : at < n
   pub clear : is_clear state at ≡ true
 
--- a window that some_lets and has been read to its end leaves one of the lowest bits 0
+-- a window that a bucket lets pass and that has been read to its end leaves one of the lowest bits 0
 pub low_clear : (table text : List ℕ) (pos stride place state q : ℕ) → 1 ≤ stride → stride ≤ 2 → Shows table text pos stride place state
     → pos ≤ q → q + 8 ≤ place → place ≤ q + 7 + stride → some_lets table (drop q text) ≡ true → HasClear state (8 * stride)
 low_clear table text pos stride place state q some few shows low begun high passing =
@@ -54,7 +54,7 @@ low_clear table text pos stride place state q some few shows low begun high pass
 pub none_clear : (bits stride : ℕ) → bit_and bits (2 ^ (8 * stride) - 1) ≡ 2 ^ (8 * stride) - 1 → HasClear bits (8 * stride) → ⊥
 none_clear bits stride full has = false≢true (sym (low_ones bits (8 * stride) has.at full has.below) ∙ has.clear)
 
--- each window that some_lets, of those that end at the places of a round up to one, has left such a bit 0
+-- each window that a bucket lets pass, of those that end at the places of a round up to one, has left such a bit 0
 pub record HasShown (table text : List ℕ) (stride place to all state : ℕ) : Type 0 where
   pub left : (pos : ℕ) → Shows table text pos stride place state → (q : ℕ) → EndsWithin pos place to q → some_lets table (drop q text) ≡ true → HasClear all (8 * stride)
 

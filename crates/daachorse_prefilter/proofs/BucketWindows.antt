@@ -130,7 +130,7 @@ open_more table text q b k refused e is so_far =
     ∙ ap (λ c. c && is_clear refused b) (is_clear_shr e (56 - 8 * k) b ∙ ap (λ n. is_clear n (56 - 8 * k + b)) (is ∙ ap (λ s. get_or table s 0) (sym (slot_behind text q k (q + k) refl))))
     ∙ ap (λ r. is_clear (get_or table (slot_at (drop q text) k) 0) (56 - 8 * k + b) && r) so_far
 
--- a window some_lets just where the bits that none refuses are not all 1
+-- some bucket lets a window pass just where the bits that none refuses are not all 1
 pub passes_is : (table w : List ℕ) (refused : ℕ) → ((b : ℕ) → b < 8 → is_clear refused b ≡ open_so_far table w b 8)
     → some_lets table w ≡ some_below (λ b. is_clear refused b) 8
 unfolding some_lets lets

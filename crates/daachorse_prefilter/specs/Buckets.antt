@@ -39,7 +39,7 @@ abbrev pub may_begin : Option (List ℕ) → List ℕ → Bool
 may_begin None w = true
 may_begin (Some table) w = nat_lt (length w) 26 || some_lets table w
 
--- the pattern's bytes at the place k and the two behind it have the slot y: its last two with any third, and any three where it has fewer
+-- the pattern's bytes at the place k and the two after it have the slot y: its last two with any third, and any three where it has fewer
 unfoldable pub has_slot : List ℕ → ℕ → ℕ → Bool
 has_slot pattern k y =
     let a = slice_index pattern k in

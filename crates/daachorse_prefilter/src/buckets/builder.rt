@@ -70,7 +70,7 @@ fn mark_places(entries: &mut [u64], mask: &mut u64, pattern: &[u8], bucket: usiz
     }
 }
 
-/// Lets the pattern's bytes stand at the place k of a window and the two behind it.
+/// Lets the pattern's bytes stand at the place k of a window and the two after it.
 fn mark(entries: &mut [u64], mask: &mut u64, pattern: &[u8], bucket: usize, k: usize)
     requires sized { length entries.old ≡ 8192 }
     requires bucket { bucket < 8 }

@@ -1,4 +1,4 @@
--- Behind a place that was read, none of the windows that end there some_lets: by its lowest bits, or as each was looked at.
+-- After a place was read, no bucket lets a window pass that ends there: by its lowest bits, or as each was looked at.
 use Rattle.std.proofs.Common.{◌≡◌, ◌+◌, ◌*◌, ℕ, arith, subst, sym, bit_and}
 use Rattle.daachorse_prefilter.specs.BucketScans.{Shows}
 use Rattle.daachorse_prefilter.proofs.BucketScanLaws.{none_more, none_same, next_place}

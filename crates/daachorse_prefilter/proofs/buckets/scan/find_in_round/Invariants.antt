@@ -1,4 +1,4 @@
--- The state shows the windows, and none of those that ended so far some_lets.
+-- The state shows the windows, and no bucket lets one of those pass that ended so far.
 use Rattle.std.proofs.Common.{◌+◌, ◌*◌}
 use Rattle.daachorse_prefilter.specs.BucketScans.{Shows, NoneWithin}
 use Rattle.daachorse_prefilter.proofs.buckets.scan.find_in_round.Given as goal

@@ -1,4 +1,4 @@
--- The state shows the windows, and each that some_lets left a bit 0.
+-- The state shows the windows, and each that a bucket lets pass left a bit 0.
 use Rattle.std.proofs.Common.{◌+◌, ◌*◌, ℕ}
 use Rattle.daachorse_prefilter.specs.BucketScans.{Shows}
 use Rattle.daachorse_prefilter.proofs.BucketScanLaws.{HasShown}

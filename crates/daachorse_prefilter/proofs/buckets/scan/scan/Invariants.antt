@@ -1,4 +1,4 @@
--- The state shows the windows, and none of those that were read to their end some_lets.
+-- The state shows the windows, and no bucket lets one of those pass that were read to their end.
 use Rattle.std.proofs.Common.{◌≡◌, ◌⊎◌, ◌+◌, ◌-◌, ◌≤◌, length, ℕ, drop, false}
 use Rattle.daachorse_prefilter.specs.Buckets.{some_lets}
 use Rattle.daachorse_prefilter.specs.BucketScans.{Shows}

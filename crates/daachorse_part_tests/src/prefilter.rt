@@ -2,8 +2,6 @@
 
 use crate::expect;
 use daachorse_core::errors::DaachorseError;
-use daachorse_prefilter::place_test::NoTest;
-use daachorse_prefilter::prefilter::reading::{AsFolded, AsItIs};
 use daachorse_prefilter::prefilter::{Prefilter, PrefilterBuilder, PrefilterGate};
 use daachorse_serializer::serializer::SerializableVec;
 use std::alloc::{AllocError, Global};
@@ -34,17 +32,6 @@ fn place_of(filter: &Prefilter, asked: Asked, text: &str, from: usize) -> usize 
         Asked::FoldedBytes => filter.next_position_folded(text.as_bytes(), from),
         Asked::Text => filter.next_position_at_char_boundary(text, from),
         Asked::FoldedText => filter.next_position_folded_at_char_boundary(text, from),
-    }
-}
-
-/// The first candidate by the calls that take a test, with the test that passes everywhere.
-fn place_where(filter: &Prefilter, asked: Asked, text: &str, from: usize) -> usize {
-    let bytes = text.as_bytes();
-    match asked {
-        Asked::Bytes => filter.first_place::<AsItIs, NoTest>(&NoTest, bytes, from),
-        Asked::FoldedBytes => filter.first_place::<AsFolded, NoTest>(&NoTest, bytes, from),
-        Asked::Text => filter.first_boundary::<AsItIs, NoTest>(&NoTest, text, from),
-        Asked::FoldedText => filter.first_boundary::<AsFolded, NoTest>(&NoTest, text, from),
     }
 }
 
@@ -102,8 +89,6 @@ fn the_first_place_that_passes_is_found(rt: HostRuntime) -> Result<(), Fail> {
         let filter = filter_of(rt.alloc(), patterns)?.ok_or("no filter")?;
         let found = place_of(&filter, *asked, text, *from);
         expect(&rt, found == *place, text);
-        let tested = place_where(&filter, *asked, text, *from);
-        expect(&rt, tested == *place, text);
     }
     expect(&rt, Prefilter::<Global>::MIN_WINDOW_LEN == 2, "the least");
     expect(&rt, Prefilter::<Global>::MAX_WINDOW_LEN == 9, "the most");

@@ -8,7 +8,7 @@ use Rattle.daachorse_model.specs.Prefixes.{IsKey, IsListing}
 use Rattle.daachorse_model.specs.Units.{same_text}
 use Rattle.daachorse_haystack.specs.Filters.{IsSoundFor}
 use Rattle.daachorse_prefilter.specs.Asked.{lets_pass}
-use Rattle.daachorse_prefilter.specs.Buckets.{AreBuckets, IsMarked, IsOpened, MayTell, is_clear_at, is_open, may_begin, opens, some_lets}
+use Rattle.daachorse_prefilter.specs.Buckets.{AreBuckets, IsMarked, IsOpened, MayTell, is_clear_at, may_begin, opens, some_lets}
 use Rattle.daachorse_prefilter.specs.Filters.{Filter}
 use Rattle.daachorse_prefilter.proofs.BucketMarks.{marked_lets}
 use Rattle.daachorse_prefilter.proofs.SoundFilters.{sound_tested}
@@ -46,43 +46,43 @@ module _ {V : Type 0} (spell : List ℕ → List ℕ) (K : Dictionary V) where
       subst P (sym same_buckets) (subst Q (sym same_filter) (subst R same (sound_tested K (may_begin buckets) spell filter (sound_buckets joined buckets told) sound)))
 
   -- the keys that are left to be marked, those that were, and nothing else
-  pub record AreMarkedSoFar (left : List (List ℕ × V)) (entries : List ℕ) (mask : ℕ) : Type 0 where
+  pub record AreMarkedSoFar (left : List (List ℕ × V)) (table : List ℕ) : Type 0 where
     pub keys : (k : List ℕ) → values_of left k ≢ [] → IsKey K k
-    pub marked : (k : List ℕ) → IsKey K k → (values_of left k ≢ []) ⊎ IsMarked (is_open entries mask) (spell k)
-    pub no_others : (y i : ℕ) → y < 8192 → i < 64 → is_open entries mask y i ≡ true → IsOpened spell K y i
+    pub marked : (k : List ℕ) → IsKey K k → (values_of left k ≢ []) ⊎ IsMarked table (spell k)
+    pub no_others : (y i : ℕ) → y < 8192 → i < 64 → is_clear_at table y i ≡ true → IsOpened spell K y i
 
-  pub marked_none : (left : List (List ℕ × V)) (entries : List ℕ) (mask : ℕ) → IsListing K left → ((y i : ℕ) → y < 8192 → i < 64 → is_open entries mask y i ≡ false) → AreMarkedSoFar left entries mask
-  marked_none left entries mask listing none = record {
+  pub marked_none : (left : List (List ℕ × V)) (table : List ℕ) → IsListing K left → ((y i : ℕ) → y < 8192 → i < 64 → is_clear_at table y i ≡ false) → AreMarkedSoFar left table
+  marked_none left table listing none = record {
     keys = λ k some nil. some (listing.same k ∙ nil);
     marked = λ k is_key. inl (λ nil. is_key (sym (listing.same k) ∙ nil));
     no_others = λ y i h within is. absurd (false≢true (sym (none y i h within) ∙ is));
   }
 
-  pub marked_all : (table entries : List ℕ) (mask : ℕ) → ((y i : ℕ) → y < 8192 → is_clear_at table y i ≡ is_open entries mask y i) → AreMarkedSoFar [] entries mask → AreBuckets spell K table
-  marked_all table entries mask closed so_far = record {
+  pub marked_all : (table : List ℕ) → AreMarkedSoFar [] table → AreBuckets spell K table
+  marked_all table so_far = record {
     marked = λ k is_key. elim (so_far.marked k is_key) [
       | inl some ↦ absurd (some refl)
-      | inr is ↦ record { bucket = is.bucket; below = is.below; clear = λ y i h within of. closed y i h ∙ is.clear y i h within of }
+      | inr is ↦ is
     ];
-    no_others = λ y i h within is. so_far.no_others y i h within (sym (closed y i h) ∙ is);
+    no_others = so_far.no_others;
   }
 
-  pub marked_more : (w : List ℕ) (v : V) (left : List (List ℕ × V)) (entries : List ℕ) (mask : ℕ) (more : List ℕ) (less bucket : ℕ) → AreMarkedSoFar ((w, v) ∷ left) entries mask → bucket < 8
-      → ((y i : ℕ) → i < 64 → is_open more less y i ≡ (is_open entries mask y i || opens (spell w) bucket 8 y i)) → AreMarkedSoFar left more less
-  marked_more w v left entries mask more less bucket so_far below adds = record {
+  pub marked_more : (w : List ℕ) (v : V) (left : List (List ℕ × V)) (table more : List ℕ) (bucket : ℕ) → AreMarkedSoFar ((w, v) ∷ left) table → bucket < 8
+      → ((y i : ℕ) → y < 8192 → i < 64 → is_clear_at more y i ≡ (is_clear_at table y i || opens (spell w) bucket 8 y i)) → AreMarkedSoFar left more
+  marked_more w v left table more bucket so_far below adds = record {
     keys = λ k some. so_far.keys k (some_more (same_text w k) v (values_of left k) some);
     marked = λ k is_key. elim (so_far.marked k is_key) [
       | inl some ↦ elim (one_of (same_text w k) v (values_of left k) some) [
-        | inl same ↦ inr (let P : List ℕ → Type 0 = λ x. IsMarked (is_open more less) (spell x) in subst P ((bytes_eq-Decides w k).0 same) newly)
+        | inl same ↦ inr (let P : List ℕ → Type 0 = λ x. IsMarked more (spell x) in subst P ((bytes_eq-Decides w k).0 same) newly)
         | inr later ↦ inl later
       ]
-      | inr is ↦ inr (record { bucket = is.bucket; below = is.below; clear = λ y i h within of. adds y i within ∙ or_left _ _ (is.clear y i h within of) })
+      | inr is ↦ inr (record { bucket = is.bucket; below = is.below; clear = λ y i h within of. adds y i h within ∙ or_left _ _ (is.clear y i h within of) })
     ];
-    no_others = λ y i h within is. elim (either (is_open entries mask y i) (opens (spell w) bucket 8 y i) (sym (adds y i within) ∙ is)) [
+    no_others = λ y i h within is. elim (either (is_clear_at table y i) (opens (spell w) bucket 8 y i) (sym (adds y i h within) ∙ is)) [
       | inl was ↦ so_far.no_others y i h within was
       | inr of ↦ record { key = w; is_key = so_far.keys w (first_some (same_text w w) v (values_of left w) ((bytes_eq-Decides w w).1 refl)); bucket = bucket; below = below; opened = of }
     ];
   }
     where
-      newly : IsMarked (is_open more less) (spell w)
-      newly = record { bucket = bucket; below = below; clear = λ y i h within of. adds y i within ∙ or_right (is_open entries mask y i) _ of }
+      newly : IsMarked more (spell w)
+      newly = record { bucket = bucket; below = below; clear = λ y i h within of. adds y i h within ∙ or_right (is_clear_at table y i) _ of }

@@ -1,14 +1,14 @@
 -- What each step of the builder of buckets opens, and that a pattern's window passes where all of its bits are open.
-use Rattle.std.proofs.Common.{◌≡◌, ◌≢◌, ◌⊎◌, inl, inr, ℕ, suc, ◌+◌, ◌-◌, ◌*◌, ◌/◌, ◌%◌, ◌^◌, ◌<◌, ◌≤◌, Bool, true, false, ◌&&◌, List, ◌++◌, length, get_or, set, refl, sym, ap, ◌∙◌, arith, get_or-set_same, get_or-set_other}
+use Rattle.std.proofs.Common.{◌≡◌, ◌≢◌, ◌⊎◌, inl, inr, ℕ, suc, ◌+◌, ◌-◌, ◌*◌, ◌/◌, ◌%◌, ◌^◌, ◌<◌, ◌≤◌, Bool, true, false, ◌&&◌, List, ◌++◌, length, get_or, map, set, refl, sym, ap, ◌∙◌, arith, get_or-set_same, get_or-set_other}
 use Rattle.std.specs.Prelude.{◌==◌, ◌||◌, nat_le, bit_and, bit_or}
 use Rattle.std.specs.Int.{bit_not, w64}
 use Rattle.std.proofs.lemmas.Bool.{and_from, cases_eq, cases_lt, eq-eqb, le-leb}
 use Rattle.std.proofs.lemmas.Bool.Decides.{eqb_tells, nat_tests}
-use Rattle.std.proofs.lemmas.List.{get_or_append_left}
+use Rattle.std.proofs.lemmas.List.{get_or-map, get_or_append_left}
 use Rattle.daachorse_model.specs.Filter.{is_clear}
-use Rattle.daachorse_prefilter.specs.Buckets.{IsMarked, has_slot, is_clear_at, lets, opens, slot, slot_at, some_below, some_lets}
+use Rattle.daachorse_prefilter.specs.Buckets.{IsMarked, has_slot, is_clear_at, is_open, lets, opens, slot, slot_at, some_below, some_lets}
 use Rattle.daachorse_prefilter.proofs.BucketWindows.{all_below-all, some_below-found}
-use Rattle.daachorse_prefilter.proofs.ClearBits.{is_clear_unset}
+use Rattle.daachorse_prefilter.proofs.ClearBits.{is_clear-and, is_clear_unset}
 
 -- ---- tests that are joined
 
@@ -40,6 +40,10 @@ in_bit true u s = refl
 in_bit false u s = refl
 
 -- ---- what a step opens
+
+-- a bit of an entry that has joined the mask
+pub closed_at : (entries : List ℕ) (mask y i : ℕ) → y < length entries → is_clear_at (map (λ e. bit_and e mask) entries) y i ≡ is_open entries mask y i
+closed_at entries mask y i h = ap (λ n. is_clear n i) (get_or-map (λ e. bit_and e mask) entries y 0 0 h) ∙ is_clear-and (get_or entries y 0) mask i
 
 -- a bit of one entry
 pub unset_opens : (entries : List ℕ) (x bit y i : ℕ) → x < length entries → bit < 64 → i < 64
@@ -154,7 +158,7 @@ own_slot pattern rest k = by (cases_lt (length pattern) (k + 3)) (cases_eq (k + 
     by (inl short) (inr fewer) = any_slots pattern k (slot_at w k) (let apart : k + 2 ≢ length pattern = fewer in omega arith)
 
 -- wherever a pattern begins that is marked, its bucket lets the window pass
-pub marked_lets : (table pattern rest : List ℕ) → IsMarked (is_clear_at table) pattern → some_lets table (pattern ++ rest) ≡ true
+pub marked_lets : (table pattern rest : List ℕ) → IsMarked table pattern → some_lets table (pattern ++ rest) ≡ true
 unfolding some_lets lets opens
 marked_lets table pattern rest m =
     some_below-found (λ b. lets table b (pattern ++ rest)) 8 m.bucket m.below

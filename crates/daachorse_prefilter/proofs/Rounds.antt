@@ -1,16 +1,16 @@
 -- Each window that passes in a round has its bit set in one number, and one that begins before another has a higher bit.
-use Rattle.std.proofs.Common.{◌≡◌, ◌≢◌, ℕ, zero, suc, ◌+◌, ◌-◌, ◌*◌, ◌%◌, ◌^◌, ◌<◌, ◌≤◌, ◌⊎◌, Bool, true, false, ◌&&◌, List, length, drop, refl, sym, ap, ◌∙◌, inl, inr, arith}
+use Rattle.std.proofs.Common.{◌≡◌, ◌≢◌, ℕ, zero, suc, ◌+◌, ◌-◌, ◌*◌, ◌%◌, ◌^◌, ◌<◌, ◌≤◌, ◌⊎◌, Bool, true, false, List, length, refl, sym, ap, ◌∙◌, inl, inr, arith}
 use Rattle.std.specs.Prelude.{◌==◌, ◌||◌, bit_and}
 use Rattle.std.specs.Int.{bit_at, bit_not, w32}
 use Rattle.std.specs.Int.Count.{count_leading_zeros}
-use Rattle.std.proofs.lemmas.Bool.{cases_eq, cases_lt, false≢true}
+use Rattle.std.proofs.lemmas.Bool.{cases_lt, false≢true}
 use Rattle.std.proofs.Math.Pow.{pow_mono}
-use Rattle.std.proofs.lemmas.Nat.{leading_top, and_le_l}
-use Rattle.std.proofs.lemmas.Nat.Bits.{bit_at-zero, bit_at_cat_high, bit_at_clear_same, bit_at_clear_other}
+use Rattle.std.proofs.lemmas.Nat.{leading_top}
+use Rattle.std.proofs.lemmas.Nat.Bits.{bit_at-zero, bit_at_cat_high}
 use Rattle.daachorse_model.specs.Filter.{is_clear, passes}
 use Rattle.daachorse_prefilter.specs.Places.{IsFirstPlace}
-use Rattle.daachorse_prefilter.specs.Scans.{has_begun, AreRefused, HasEnded, IsFirstAccepted, NonePasses}
-use Rattle.daachorse_prefilter.proofs.ClearBits.{is_clear-and, is_clear_not, is_clear_shifted, is_clear_shifted_below, is_clear_mask, is_clear_mask_above, clear_is_not_set, not_set_is_clear, is_clear_zero}
+use Rattle.daachorse_prefilter.specs.Scans.{has_begun, HasEnded, IsFirstWindow, NonePasses}
+use Rattle.daachorse_prefilter.proofs.ClearBits.{is_clear-and, is_clear_not, is_clear_shifted, is_clear_shifted_below, is_clear_mask, is_clear_mask_above, clear_is_not_set, not_set_is_clear}
 use Rattle.daachorse_prefilter.proofs.Scanned.{entry_in, begins_behind, none_more, found}
 
 -- the bits that tell of the windows of a round of n pairs
@@ -78,62 +78,12 @@ highest p some small =
     positive : p ≢ 0 → 0 < p
     positive h = omega arith
 
--- of the windows whose bit is set, the test refused those whose bit is left no more
-pub record IsLeft (tested : List ℕ → Bool) (text : List ℕ) (e passing left : ℕ) : Type 0 where
-  pub among : (b : ℕ) → is_clear left b ≡ false → is_clear passing b ≡ false
-  pub others : (b : ℕ) → is_clear passing b ≡ false → (is_clear left b ≡ false) ⊎ (tested (drop (e - b) text) ≡ false)
-
--- a number with one of its bits less
-abbrev pub without : ℕ → ℕ → ℕ
-without left j = bit_and left (bit_not w32 (1 * 2 ^ j % 2 ^ 32))
-
-module _ (tested : List ℕ → Bool) (text : List ℕ) (e passing : ℕ) where
-  pub left_all : IsLeft tested text e passing passing
-  left_all = record { among = λ b set. set; others = λ b set. inl set }
-
-  pub left_less : (left j : ℕ) → left < 2 ^ 32 → IsHighest left j → tested (drop (e - j) text) ≡ false → IsLeft tested text e passing left → IsLeft tested text e passing (without left j)
-  left_less left j small top refused is = record {
-    among = λ b set. is.among b (left_false (is_clear left b) (is_clear (bit_not w32 (1 * 2 ^ j % 2 ^ 32)) b) (sym (is_clear-and left (bit_not w32 (1 * 2 ^ j % 2 ^ 32)) b) ∙ set));
-    others = λ b set. by b (is.others b set) (cases_eq b j);
-  }
-    where
-      by : (b : ℕ) → (is_clear left b ≡ false) ⊎ (tested (drop (e - b) text) ≡ false) → (b ≡ j) ⊎ (b ≢ j) → (is_clear (without left j) b ≡ false) ⊎ (tested (drop (e - b) text) ≡ false)
-      by b (inr not) which = inr not
-      by b (inl set) (inl same) = inr (ap (λ i. tested (drop (e - i) text)) same ∙ refused)
-      by b (inl set) (inr other) = inl (ap (λ n. n == 0) (bit_at_clear_other w32 left j top.within b (set_within left b small set) other) ∙ set)
-
-  -- the highest is the first window at which the test passes
-  pub accepted_first : (left j : ℕ) → IsHighest left j → IsLeft tested text e passing left → tested (drop (e - j) text) ≡ true → IsFirstAccepted tested text e passing (e - j)
-  accepted_first left j top is passed = record {
-    window = j;
-    set = is.among j top.set;
-    begins = refl;
-    accepted = passed;
-    earlier = λ b high set. by b high (is.others b set);
-  }
-    where
-      by : (b : ℕ) → suc j ≤ b → (is_clear left b ≡ false) ⊎ (tested (drop (e - b) text) ≡ false) → tested (drop (e - b) text) ≡ false
-      by b high (inr not) = not
-      by b high (inl set) = absurd (false≢true (sym set ∙ top.none b (omega arith)))
-
-  pub refused_all : (left : ℕ) → left ≡ 0 → IsLeft tested text e passing left → AreRefused tested text e passing 0
-  refused_all left none is b low set = by (is.others b set)
-    where
-      by : (is_clear left b ≡ false) ⊎ (tested (drop (e - b) text) ≡ false) → tested (drop (e - b) text) ≡ false
-      by (inr not) = not
-      by (inl still) = absurd (false≢true (sym still ∙ ap (λ n. is_clear n b) none ∙ is_clear_zero b))
-
-pub less_left : (left j : ℕ) → IsHighest left j → without left j < left
-less_left left j top =
-    let least = and_le_l left (bit_not w32 (1 * 2 ^ j % 2 ^ 32)) in
-    by least (cases_eq (without left j) left)
-  where
-    by : without left j ≤ left → (without left j ≡ left) ⊎ (without left j ≢ left) → without left j < left
-    by least (inl same) = absurd (false≢true (sym top.set ∙ ap (λ n. is_clear n j) (sym same) ∙ ap (λ n. n == 0) (bit_at_clear_same w32 left j top.within)))
-    by least (inr other) = omega arith
+-- the highest bit of those that are set is that of the first window
+pub first_window : (e passing : ℕ) → passing ≢ 0 → passing < 2 ^ 32 → IsFirstWindow e passing (e - (31 - count_leading_zeros 32 passing))
+first_window e passing some small = let top = (highest passing some small).0 in record { window = 31 - count_leading_zeros 32 passing; set = top.set; begins = refl; earlier = top.none }
 
 -- the round of the bytes behind a place ended in the state r
-module _ (tested : List ℕ → Bool) (entries h : List ℕ) (last n pos place r : ℕ) (small : last ≤ 7) (few : n ≤ 16) (hr : r < 2 ^ 32) (inside : place + n < length h) (ends : HasEnded entries h last pos (place + 1) n r) where
+module _ (entries h : List ℕ) (last n pos place r : ℕ) (small : last ≤ 7) (few : n ≤ 16) (hr : r < 2 ^ 32) (inside : place + n < length h) (ends : HasEnded entries h last pos (place + 1) n r) where
   -- the bit of window k tells whether it has begun
   begun_is : (k i : ℕ) → k < n → i ≡ place + k + 2 → is_clear r (last + (n - 1 - k)) ≡ has_begun entries h pos i last
   begun_is k i less e =
@@ -192,25 +142,28 @@ module _ (tested : List ℕ → Bool) (entries h : List ℕ) (last n pos place r
       let behind = begins_behind entries h last pos (place + 1 + (last + n - 1 - b) + 1) (begun_at b w) in
       omega arith
 
-  -- the test refuses each of the first m windows that pass
-  none_until : (m : ℕ) → m ≤ n → NonePasses tested entries h (last + 2) pos (place + 1) → AreRefused tested h (place + n - 1) (passing_bits last n r) (last + n - m) → NonePasses tested entries h (last + 2) pos (place + 1 + m)
-  none_until zero part none refuses = let same : place + 1 + zero ≡ place + 1 = omega arith in rw same none
-  none_until (suc m) part none refuses =
-      let before = none_until m (omega arith) none (λ b low set. refuses b (omega arith) set) in
+  -- none of the first m windows of the round has its bit set
+  none_until : (m : ℕ) → m ≤ n → NonePasses entries h (last + 2) pos (place + 1) → ((b : ℕ) → last + n - m ≤ b → is_clear (passing_bits last n r) b ≡ true) → NonePasses entries h (last + 2) pos (place + 1 + m)
+  none_until zero part none clear = let same : place + 1 + zero ≡ place + 1 = omega arith in rw same none
+  none_until (suc m) part none clear =
+      let before = none_until m (omega arith) none (λ b low. clear b (omega arith)) in
       let end : place + 1 + suc m ≡ place + 1 + m + 1 = omega arith in
-      let begins : place + 1 + m + 1 - (last + 2) ≡ place + n - 1 - (last + (n - 1 - m)) = omega arith in
-      rw end (none_more tested entries h last pos (place + 1 + m) (omega arith)
-      (λ begun. ap (λ p. tested (drop p h)) begins ∙ refuses (last + (n - 1 - m)) (omega arith) (among_passing m (omega arith) (begun_is m (place + 1 + m + 1) (omega arith) (omega arith) ∙ begun)))
-      before)
+      let unset = clear (last + (n - 1 - m)) (omega arith) in
+      rw end (none_more entries h last pos (place + 1 + m) (omega arith) (by (has_begun entries h pos (place + 1 + m + 1) last)
+      (λ begun. false≢true (sym (among_passing m (omega arith) (begun_is m (place + 1 + m + 1) (omega arith) (omega arith) ∙ begun)) ∙ unset))) before)
+    where
+      by : (b : Bool) → (b ≡ true → ⊥) → b ≡ false
+      by false never = refl
+      by true never = absurd (never refl)
 
-  -- it refuses each window of the round
-  pub none_in_round : NonePasses tested entries h (last + 2) pos (place + 1) → AreRefused tested h (place + n - 1) (passing_bits last n r) 0 → NonePasses tested entries h (last + 2) pos (place + n + 1)
-  none_in_round none refuses =
+  -- none of the round has
+  pub none_in_round : NonePasses entries h (last + 2) pos (place + 1) → ((b : ℕ) → is_clear (passing_bits last n r) b ≡ true) → NonePasses entries h (last + 2) pos (place + n + 1)
+  none_in_round none clear =
       let end : place + n + 1 ≡ place + 1 + n = omega arith in
-      rw end (none_until n (omega arith) none (λ b low set. refuses b (omega arith) set))
+      rw end (none_until n (omega arith) none (λ b low. clear b))
 
-  -- the first window of the round at which it passes is the first of all
-  pub found_in_round : (p : ℕ) → NonePasses tested entries h (last + 2) pos (place + 1) → IsFirstAccepted tested h (place + n - 1) (passing_bits last n r) p → IsFirstPlace (λ w. tested w && passes (entry_in entries) (last + 2) w) h pos p
+  -- the first window of the round that passes is the first of all
+  pub found_in_round : (p : ℕ) → NonePasses entries h (last + 2) pos (place + 1) → IsFirstWindow (place + n - 1) (passing_bits last n r) p → IsFirstPlace (passes (entry_in entries) (last + 2)) h pos p
   found_in_round p none is =
       let b = is.window in
       let w = window_of b is.set in
@@ -218,6 +171,5 @@ module _ (tested : List ℕ → Bool) (entries h : List ℕ) (last n pos place r
       let high : b < last + n = w.high in
       let k = last + n - 1 - b in
       let begins : p ≡ place + 1 + k + 1 - (last + 2) = omega (arith, is.begins) in
-      rw begins (found tested entries h last pos (place + 1 + k) (omega arith) (begun_at b w)
-      (ap (λ n. tested (drop n h)) (sym begins) ∙ is.accepted)
-      (none_until k (omega arith) none (λ i above set. is.earlier i (omega arith) set)))
+      rw begins (found entries h last pos (place + 1 + k) (omega arith) (begun_at b w)
+      (none_until k (omega arith) none (λ i above. is.earlier i (omega arith))))

@@ -9,7 +9,6 @@ use Rattle.daachorse_prefilter.specs.Places.{IsFirstPlace}
 use Rattle.daachorse_prefilter.specs.Scans.{has_begun, AreBits, HasEnded, NonePasses}
 use Rattle.daachorse_prefilter.proofs.ClearBits.{is_clear-and, is_clear-or, is_clear_shifted, is_clear_shifted_below, is_clear_mask, is_clear_mask_above}
 use Rattle.daachorse_prefilter.proofs.NextPlaces.{pairs_pass_more, passes_short}
-use Rattle.daachorse_prefilter.proofs.PlaceLaws.{both_pass, refused}
 
 abbrev pub entry_in : List ℕ → ℕ → ℕ
 entry_in entries pair = get_or entries pair 0
@@ -224,35 +223,32 @@ begins_behind entries h last pos i fit = by (cases_lt i (pos + last + 2))
         absurd (cc)
     by (inr most) = most
 
-module _ (tested : List ℕ → Bool) (entries h : List ℕ) (last pos : ℕ) where
-  pub none_start : NonePasses tested entries h (last + 2) pos (pos + 1)
+module _ (entries h : List ℕ) (last pos : ℕ) where
+  pub none_start : NonePasses entries h (last + 2) pos (pos + 1)
   none_start k from end = absurd (omega arith)
 
-  -- the window that ends with byte i has not begun, or the test refuses there
-  pub none_more : (i : ℕ) → i + 1 ≤ length h → (has_begun entries h pos (i + 1) last ≡ true → tested (drop (i + 1 - (last + 2)) h) ≡ false) → NonePasses tested entries h (last + 2) pos i → NonePasses tested entries h (last + 2) pos (i + 1)
+  -- the window that ends with byte i has not begun
+  pub none_more : (i : ℕ) → i + 1 ≤ length h → has_begun entries h pos (i + 1) last ≡ false → NonePasses entries h (last + 2) pos i → NonePasses entries h (last + 2) pos (i + 1)
   none_more i inside unfit none k from end = by (cases_lt i (k + (last + 2)))
     where
-      by : (i < k + (last + 2)) ⊎ (k + (last + 2) ≤ i) → (tested (drop k h) && passes (entry_in entries) (last + 2) (drop k h)) ≡ false
-      by (inl ends) =
-          let place : k ≡ i + 1 - (last + 2) = omega arith in
-          let is = passes_is entries h last pos (i + 1) k inside from (omega arith) in
-          refused (tested (drop k h)) (passes (entry_in entries) (last + 2) (drop k h)) (λ e. ap (λ n. tested (drop n h)) place ∙ unfit (sym is ∙ e))
+      by : (i < k + (last + 2)) ⊎ (k + (last + 2) ≤ i) → passes (entry_in entries) (last + 2) (drop k h) ≡ false
+      by (inl ends) = passes_is entries h last pos (i + 1) k inside from (omega arith) ∙ unfit
       by (inr before) = none k from before
 
   -- the scan stops at the window that ends with byte i
-  pub found : (i : ℕ) → i + 1 ≤ length h → has_begun entries h pos (i + 1) last ≡ true → tested (drop (i + 1 - (last + 2)) h) ≡ true → NonePasses tested entries h (last + 2) pos i → IsFirstPlace (λ w. tested w && passes (entry_in entries) (last + 2) w) h pos (i + 1 - (last + 2))
-  found i inside fit accepted none =
+  pub found : (i : ℕ) → i + 1 ≤ length h → has_begun entries h pos (i + 1) last ≡ true → NonePasses entries h (last + 2) pos i → IsFirstPlace (passes (entry_in entries) (last + 2)) h pos (i + 1 - (last + 2))
+  found i inside fit none =
       let r = i + 1 - (last + 2) in
       let behind = begins_behind entries h last pos (i + 1) fit in
       record {
         inside = omega arith;
         told = tt;
-        found = λ l. (omega arith, both_pass (tested (drop r h)) (passes (entry_in entries) (last + 2) (drop r h)) accepted (passes_is entries h last pos (i + 1) r inside (omega arith) (omega arith) ∙ fit));
+        found = λ l. (omega arith, passes_is entries h last pos (i + 1) r inside (omega arith) (omega arith) ∙ fit);
         first = λ k l u may. none k l (omega arith);
       }
 
   -- the scan reached the end
-  pub found_none : NonePasses tested entries h (last + 2) pos (length h) → IsFirstPlace (λ w. tested w && passes (entry_in entries) (last + 2) w) h pos (length h)
+  pub found_none : NonePasses entries h (last + 2) pos (length h) → IsFirstPlace (passes (entry_in entries) (last + 2)) h pos (length h)
   found_none none = record {
     inside = omega arith;
     told = tt;
@@ -260,8 +256,6 @@ module _ (tested : List ℕ → Bool) (entries h : List ℕ) (last pos : ℕ) wh
     first = λ k l u may. by k l (cases_lt (length h) (k + (last + 2)));
   }
     where
-      by : (k : ℕ) → pos ≤ k → (length h < k + (last + 2)) ⊎ (k + (last + 2) ≤ length h) → (tested (drop k h) && passes (entry_in entries) (last + 2) (drop k h)) ≡ false
-      by k l (inl short) =
-          let none : passes (entry_in entries) (last + 2) (drop k h) ≡ false = passes_short (entry_in entries) (last + 2) (drop k h) (let size = length-drop k h in omega arith) in
-          refused (tested (drop k h)) (passes (entry_in entries) (last + 2) (drop k h)) (λ e. absurd (cc))
+      by : (k : ℕ) → pos ≤ k → (length h < k + (last + 2)) ⊎ (k + (last + 2) ≤ length h) → passes (entry_in entries) (last + 2) (drop k h) ≡ false
+      by k l (inl short) = passes_short (entry_in entries) (last + 2) (drop k h) (let size = length-drop k h in omega arith)
       by k l (inr fits) = none k l fits

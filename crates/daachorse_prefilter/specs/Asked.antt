@@ -10,7 +10,7 @@ pub record Asked : Type 0 where
   pub filter : Option Filter
   pub buckets : Option (List ℕ)
   pub gate : PrefilterGate
-  pub is_open : Bool
+  pub buckets_gate_is_open : Bool
 
 -- the filter passes at the beginning of these bytes, and so does the test; where there is no filter, anything passes
 abbrev pub lets_pass : (List ℕ → Bool) → Option Filter → List ℕ → Bool
@@ -22,7 +22,7 @@ pub record BeginsAskingBoth (table : Option (List ℕ)) (f : Option Filter) (s :
   pub filter : s.filter ≡ f
   pub buckets : s.buckets ≡ table
   pub gate : HasRecorded s.gate []
-  pub is_open : IsTrue s.is_open
+  pub buckets_gate : IsTrue s.buckets_gate_is_open
 
 -- this filter alone, if there is one, is asked, and its gate has recorded nothing
 abbrev pub BeginsAsking : Option Filter → Asked → Type 0
@@ -30,11 +30,11 @@ BeginsAsking f s = BeginsAskingBoth None f s
 
 -- there is a filter, and the gates have recorded nothing
 abbrev pub IsUnused : Asked → Type 0
-IsUnused s = IsSome s.filter × HasRecorded s.gate [] × IsTrue s.is_open
+IsUnused s = IsSome s.filter × HasRecorded s.gate [] × IsTrue s.buckets_gate_is_open
 
 -- whatever its gate has recorded: the filter is worth asking just where there is one, its skips paid for themselves and the other gate is open
 abbrev pub IsOpenWhilePaying : Asked → Bool → Type 0
-IsOpenWhilePaying s answer = (gains : List ℕ) → HasRecorded s.gate gains → IsTrue answer ↔ (IsSome s.filter × IsPaying gains × IsTrue s.is_open)
+IsOpenWhilePaying s answer = (gains : List ℕ) → HasRecorded s.gate gains → IsTrue answer ↔ (IsSome s.filter × IsPaying gains × IsTrue s.buckets_gate_is_open)
 
 -- whatever its gate has recorded, there is a filter, and its skips paid for themselves
 abbrev pub IsWorthAsking : Asked → Type 0

@@ -51,19 +51,19 @@ has_slot pattern k y =
 unfoldable pub opens : List ℕ → ℕ → ℕ → ℕ → ℕ → Bool
 opens pattern bucket n y i = some_below (λ k. (i == 56 - 8 * k + bucket) && has_slot pattern k y) n
 
--- while buckets are made: bit i is 0 in the entry of the slot y, or in all
-abbrev pub is_open : List ℕ → ℕ → ℕ → ℕ → Bool
-is_open entries mask y i = is_clear (slice_index entries y) i || is_clear mask i
-
 -- bit i is 0 in the entry of the slot y of a table
 abbrev pub is_clear_at : List ℕ → ℕ → ℕ → Bool
 is_clear_at table y i = is_clear (slice_index table y) i
 
--- some bucket lets the pattern's bytes stand at each place: `is_zero` tells which bits are 0 in the entries of slots
-pub record IsMarked (is_zero : ℕ → ℕ → Bool) (pattern : List ℕ) : Type 0 where
+-- while buckets are made: bit i is 0 in the entry of the slot y, or in all
+abbrev pub is_open : List ℕ → ℕ → ℕ → ℕ → Bool
+is_open entries mask y i = is_clear (slice_index entries y) i || is_clear mask i
+
+-- some bucket lets the pattern's bytes stand at each place
+pub record IsMarked (table pattern : List ℕ) : Type 0 where
   pub bucket : ℕ
   pub below : bucket < 8
-  pub clear : (y i : ℕ) → y < 8192 → i < 64 → opens pattern bucket 8 y i ≡ true → is_zero y i ≡ true
+  pub clear : (y i : ℕ) → y < 8192 → i < 64 → opens pattern bucket 8 y i ≡ true → is_clear_at table y i ≡ true
 
 module _ {V : Type 0} (spell : List ℕ → List ℕ) (K : Dictionary V) where
   -- some key opens the bit in some bucket
@@ -76,7 +76,7 @@ module _ {V : Type 0} (spell : List ℕ → List ℕ) (K : Dictionary V) where
 
   -- each key is marked, and no bit is 0 that no key opens: `spell` gives the bytes of a text
   pub record AreBuckets (table : List ℕ) : Type 0 where
-    pub marked : (k : List ℕ) → IsKey K k → IsMarked (is_clear_at table) (spell k)
+    pub marked : (k : List ℕ) → IsKey K k → IsMarked table (spell k)
     pub no_others : (y i : ℕ) → y < 8192 → i < 64 → is_clear_at table y i ≡ true → IsOpened y i
 
   -- there are no buckets, or they are those of the keys

@@ -16,7 +16,3 @@ IsFirstPlace passes text = IsFirstOf (λ k. Unit {0}) passes text
 -- of the boundaries of the text's characters
 abbrev pub IsFirstBoundary : (List ℕ → Bool) → List ℕ → ℕ → ℕ → Type 0
 IsFirstBoundary passes text = IsFirstOf (IsCharBoundary text) passes text
-
--- the test of no place: it passes everywhere
-abbrev pub untested : List ℕ → Bool
-untested bytes = true

@@ -20,20 +20,13 @@ pub record HasEnded (entries text : List ℕ) (last pos i n state : ℕ) : Type 
 abbrev pub EndsRound : List ℕ → List ℕ → ℕ → ℕ → ℕ → ℕ → Type 0
 EndsRound entries text last i n read = (pos s : ℕ) → pos + 1 ≤ i → AreBits entries text last pos i s → HasEnded entries text last pos i n (bit_or ((s * 2 ^ n) % 2 ^ 32) read)
 
--- no window that ends before place i passes, and the test with it
-abbrev pub NonePasses : (List ℕ → Bool) → List ℕ → List ℕ → ℕ → ℕ → ℕ → Type 0
-NonePasses tested entries text m pos i =
-    (k : ℕ) → pos ≤ k → k + m ≤ i → (tested (drop k text) && passes (λ pair. slice_index entries pair) m (drop k text)) ≡ false
+-- no window that ends before place i passes
+abbrev pub NonePasses : List ℕ → List ℕ → ℕ → ℕ → ℕ → Type 0
+NonePasses entries text m pos i = (k : ℕ) → pos ≤ k → k + m ≤ i → passes (λ pair. slice_index entries pair) m (drop k text) ≡ false
 
--- of the windows of a round that have a bit from n on and whose bit is set, the test refuses each: the window with bit b begins at e - b
-abbrev pub AreRefused : (List ℕ → Bool) → List ℕ → ℕ → ℕ → ℕ → Type 0
-AreRefused tested text e passing n =
-    (b : ℕ) → n ≤ b → is_clear passing b ≡ false → tested (drop (e - b) text) ≡ false
-
--- of the windows of a round whose bit is set, the first at which the test passes begins at r: a window that begins before another has a higher bit
-pub record IsFirstAccepted (tested : List ℕ → Bool) (text : List ℕ) (e passing r : ℕ) : Type 0 where
+-- of the windows of a round whose bit is set, the first begins at r: the window with bit b begins at e - b, so it has the highest bit
+pub record IsFirstWindow (e passing r : ℕ) : Type 0 where
   pub window : ℕ
   pub set : is_clear passing window ≡ false
   pub begins : r ≡ e - window
-  pub accepted : tested (drop r text) ≡ true
-  pub earlier : AreRefused tested text e passing (suc window)
+  pub earlier : (b : ℕ) → window < b → is_clear passing b ≡ true

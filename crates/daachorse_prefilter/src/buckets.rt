@@ -16,7 +16,7 @@ mod slots;
 
 pub use builder::BucketsBuilder;
 pub use filling::Filling;
-pub use gate::BucketsGate;
+pub(crate) use gate::BucketsGate;
 use scan::scan;
 use std::alloc::{Allocator, Global};
 use std::marker::Model;

@@ -7,7 +7,6 @@ ghost use Rattle.daachorse_prefilter.specs.Filters.{admits};
 ghost use Rattle.daachorse_prefilter.specs.Places.{IsFirstBoundary, IsFirstPlace};
 
 use crate::buckets::{Buckets, NEAR_END};
-use crate::place_test::NoTest;
 use crate::prefilter::Prefilter;
 use crate::prefilter::reading::{AsFolded, AsItIs, ByteReading};
 use std::alloc::Allocator;
@@ -46,7 +45,7 @@ fn find_place<R: ByteReading, A: Allocator>(
 {
     match buckets {
         Some(buckets) => find_candidate::<R, A>(filter, buckets, haystack, pos),
-        None => filter.first_place::<R, NoTest>(&NoTest, haystack, pos),
+        None => filter.first_place::<R>(haystack, pos),
     }
 }
 
@@ -73,43 +72,44 @@ fn find_candidate<R: ByteReading, A: Allocator>(
             from = place + 1;
         }
     }
-    filter.first_place::<R, NoTest>(&NoTest, haystack, from)
+    filter.first_place::<R>(haystack, from)
 }
 
 /// The first boundary of the text, folded if `folds` is set, at which prefilter and buckets pass,
 /// or its length in bytes.
 #[inline(always)]
-pub fn first_boundary<A: Allocator>(
-    filter: &Prefilter<A>,
-    buckets: Option<&Buckets<A>>,
+pub fn first_boundary<'f, A: Allocator>(
+    filter: &'f Prefilter<A>,
+    buckets: Option<&'f Buckets<A>>,
     haystack: &str,
     folds: bool,
 ) -> usize
     ensures { IsFirstBoundary (λ w. may_begin (option_map (λ b. b.now) buckets.entry) w && admits filter.now w) (as_read folds haystack.now) 0 result }
 {
     if folds {
-        return find_boundary::<AsFolded, A>(filter, buckets, haystack);
+        return find_boundary::<AsFolded, A>(filter, buckets, haystack, 0);
     }
-    find_boundary::<AsItIs, A>(filter, buckets, haystack)
+    find_boundary::<AsItIs, A>(filter, buckets, haystack, 0)
 }
 
-/// The first boundary of what is read of the text at which prefilter and buckets pass, or its
-/// length in bytes. It is cold for the same reason as [`find_place`].
+/// The first boundary of what is read of the text from `pos` on at which prefilter and buckets pass,
+/// or its length in bytes. It is cold for the same reason as [`find_place`].
 #[cold]
 #[inline(never)]
-fn find_boundary<R: ByteReading, A: Allocator>(
-    filter: &Prefilter<A>,
-    buckets: Option<&Buckets<A>>,
+pub(crate) fn find_boundary<'f, R: ByteReading, A: Allocator>(
+    filter: &'f Prefilter<A>,
+    buckets: Option<&'f Buckets<A>>,
     haystack: &str,
+    pos: usize,
 ) -> usize
-    ensures { IsFirstBoundary (λ w. may_begin (option_map (λ b. b.now) buckets.entry) w && admits filter.now w) (R.read haystack.now) 0 result }
+    ensures { IsFirstBoundary (λ w. may_begin (option_map (λ b. b.now) buckets.entry) w && admits filter.now w) (R.read haystack.now) pos result }
 {
-    let mut from = 0;
+    let mut from = pos;
     'places: loop {
-        let place = find_place::<R, A>(filter, buckets, haystack.as_bytes(), from);
-        if haystack.is_char_boundary(place) {
-            return place;
+        let found = find_place::<R, A>(filter, buckets, haystack.as_bytes(), from);
+        if haystack.is_char_boundary(found) {
+            return found;
         }
-        from = place + 1;
+        from = found + 1;
     }
 }

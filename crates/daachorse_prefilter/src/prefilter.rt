@@ -4,14 +4,14 @@
 //! pair of neighbouring bytes of its window is at the same offset in some pattern. The method is
 //! known as shift-or with q-grams.
 
-ghost use Rattle.std.specs.Prelude.{◌≡◌, ◌++◌, ℕ, ◌<◌, ◌≤◌, ◌+◌, ◌&&◌, List, drop, length, true, IfOk, IfErr};
+ghost use Rattle.std.specs.Prelude.{◌≡◌, ◌++◌, ℕ, ◌<◌, ◌≤◌, ◌+◌, List, drop, length, true, IfOk, IfErr};
 ghost use Rattle.std.specs.Cmp.Rules.{comparing};
 ghost use Rattle.std.proofs.Common.{rules};
 ghost use Rattle.daachorse_core.specs.Refusals.{IsOutOfMemory};
 ghost use Rattle.daachorse_model.specs.Folding.{folded};
 ghost use Rattle.daachorse_prefilter.specs.Equality.{filter_alike, filter_eq, filter_input};
 ghost use Rattle.daachorse_prefilter.specs.Filters.{Filter, IsFilter, IsNextBoundary, admits, next_place};
-ghost use Rattle.daachorse_prefilter.specs.Places.{IsFirstBoundary, IsFirstPlace};
+ghost use Rattle.daachorse_prefilter.specs.Places.{IsFirstPlace};
 
 mod builder;
 mod form;
@@ -21,7 +21,7 @@ pub mod reading;
 mod scan;
 mod window;
 
-use crate::place_test::{NoTest, PlaceTest};
+use crate::places::find_boundary;
 pub use builder::PrefilterBuilder;
 use daachorse_core::errors::Result;
 pub use gate::PrefilterGate;
@@ -70,7 +70,7 @@ impl<A: Allocator> Prefilter<A> {
         ensures skips_none { (pattern rest : List ℕ) (place : ℕ) → admits self.now pattern ≡ true
             → pos ≤ place → drop place haystack.now ≡ pattern ++ rest → result ≤ place }
     {
-        self.first_place::<AsItIs, NoTest>(&NoTest, haystack, pos)
+        self.first_place::<AsItIs>(haystack, pos)
     }
 
     /// Like [`Self::next_position`], with ASCII letters of the haystack read as lower case.
@@ -80,7 +80,7 @@ impl<A: Allocator> Prefilter<A> {
         ensures skips_none { (pattern rest : List ℕ) (place : ℕ) → admits self.now pattern ≡ true
             → pos ≤ place → drop place (folded haystack.now) ≡ pattern ++ rest → result ≤ place }
     {
-        self.first_place::<AsFolded, NoTest>(&NoTest, haystack, pos)
+        self.first_place::<AsFolded>(haystack, pos)
     }
 
     /// The first candidate from `pos` on that is a character boundary, or the text's length.
@@ -88,7 +88,7 @@ impl<A: Allocator> Prefilter<A> {
     pub fn next_position_at_char_boundary(&self, haystack: &str, pos: usize) -> usize
         ensures { IsNextBoundary self.now haystack.now pos result }
     {
-        self.first_boundary::<AsItIs, NoTest>(&NoTest, haystack, pos)
+        find_boundary::<AsItIs, A>(self, None, haystack, pos)
     }
 
     /// Like [`Self::next_position_at_char_boundary`], with ASCII letters read as lower case.
@@ -96,51 +96,25 @@ impl<A: Allocator> Prefilter<A> {
     pub fn next_position_folded_at_char_boundary(&self, haystack: &str, pos: usize) -> usize
         ensures { IsNextBoundary self.now (folded haystack.now) pos result }
     {
-        self.first_boundary::<AsFolded, NoTest>(&NoTest, haystack, pos)
+        find_boundary::<AsFolded, A>(self, None, haystack, pos)
     }
 
-    /// The first candidate from `pos` on that passes the test, or the haystack's length. The
-    /// haystack is read as `R` says, and the test is asked only at candidates.
+    /// The first candidate from `pos` on, or the length of the haystack, which is read as `R` says.
     #[inline(always)]
-    pub fn first_place<R: ByteReading, T: PlaceTest>(
-        &self,
-        test: &T,
-        haystack: &[u8],
-        pos: usize,
-    ) -> usize
-        ensures { IsFirstPlace (λ w. T.lets test.now w && admits self.now w) (R.read haystack.now) pos result }
+    pub(crate) fn first_place<R: ByteReading>(&self, haystack: &[u8], pos: usize) -> usize
+        ensures { IsFirstPlace (λ w. admits self.now w) (R.read haystack.now) pos result }
     {
-        scan::<R, A, T>(&self.table, test, self.window_len, haystack, pos)
+        scan::<R, A>(&self.table, self.window_len, haystack, pos)
     }
 
     /// Whether the whole window at a place passes.
     #[inline(always)]
-    pub fn admits_at<R: ByteReading>(&self, haystack: &[u8], place: usize) -> bool
+    pub(crate) fn admits_at<R: ByteReading>(&self, haystack: &[u8], place: usize) -> bool
         requires { place + 9 ≤ length haystack.now }
         ensures { result ≡ admits self.now (drop place (R.read haystack.now)) }
     {
         let end = place + self.window_len as usize;
-        self.first_place::<R, NoTest>(&NoTest, &haystack[place..end], 0) == 0
-    }
-
-    /// Like [`Self::first_place`], with only the boundaries of the text's characters as candidates.
-    #[inline(always)]
-    pub fn first_boundary<R: ByteReading, T: PlaceTest>(
-        &self,
-        test: &T,
-        haystack: &str,
-        pos: usize,
-    ) -> usize
-        ensures { IsFirstBoundary (λ w. T.lets test.now w && admits self.now w) (R.read haystack.now) pos result }
-    {
-        let mut from = pos;
-        'places: loop {
-            let place = self.first_place::<R, T>(test, haystack.as_bytes(), from);
-            if haystack.is_char_boundary(place) {
-                return place;
-            }
-            from = place + 1;
-        }
+        self.first_place::<R>(&haystack[place..end], 0) == 0
     }
 }
 

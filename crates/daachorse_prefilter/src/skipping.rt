@@ -34,7 +34,7 @@ impl<'a, A: Allocator> Model for Skipping<'a, A> {
 
     ghost Value = { Asked };
 
-    ghost view = { λ s. record { filter = option_map (λ f. f.now) s.filter; buckets = option_map (λ b. b.now) s.buckets; gate = s.gate; is_open = s.buckets_gate.is_open } };
+    ghost view = { λ s. record { filter = option_map (λ f. f.now) s.filter; buckets = option_map (λ b. b.now) s.buckets; gate = s.gate; buckets_gate_is_open = s.buckets_gate.is_open } };
 }
 
 impl<'a, A: Allocator> Skipping<'a, A> {
@@ -44,7 +44,7 @@ impl<'a, A: Allocator> Skipping<'a, A> {
         ensures filter { result.filter ≡ option_map (λ f. f.now) filter.entry }
         ensures alone { result.buckets ≡ None }
         ensures gate { HasRecorded result.gate [] }
-        ensures is_open { IsTrue result.is_open }
+        ensures buckets_gate { IsTrue result.buckets_gate_is_open }
     {
         Self {
             filter,
@@ -60,7 +60,7 @@ impl<'a, A: Allocator> Skipping<'a, A> {
         ensures filter { result.filter ≡ self.entry.filter }
         ensures buckets { result.buckets ≡ option_map (λ b. b.now) buckets.entry }
         ensures gate { result.gate ≡ self.entry.gate }
-        ensures is_open { result.is_open ≡ self.entry.is_open }
+        ensures buckets_gate { result.buckets_gate_is_open ≡ self.entry.buckets_gate_is_open }
     {
         Self {
             filter: self.filter,
@@ -83,7 +83,7 @@ impl<'a, A: Allocator> Skipping<'a, A> {
     /// Whether both gates are open.
     #[inline(always)]
     fn are_open(&self) -> bool
-        ensures { (gains : List ℕ) → HasRecorded self.now.gate gains → IsTrue result ↔ (IsPaying gains × IsTrue self.now.is_open) }
+        ensures { (gains : List ℕ) → HasRecorded self.now.gate gains → IsTrue result ↔ (IsPaying gains × IsTrue self.now.buckets_gate_is_open) }
     {
         self.gate.is_enabled() && self.buckets_gate.is_open()
     }
@@ -110,7 +110,7 @@ impl<'a, 'h, A: Allocator> Filter<u8, Bytes<'h>> for Skipping<'a, A> {
         ensures passes { (w : List ℕ) → lets_pass (may_begin self.new.buckets) self.new.filter w ≡ lets_pass (may_begin self.old.buckets) self.old.filter w }
         ensures goes { IsNextPassing (λ w. lets_pass (may_begin self.old.buckets) self.old.filter w) rest.old rest.new }
         ensures records { HasRecordedSkip byte_width self.old rest.old rest.new self.new }
-        ensures stays { self.old.buckets ≡ None → self.new.is_open ≡ self.old.is_open }
+        ensures stays { self.old.buckets ≡ None → self.new.buckets_gate_is_open ≡ self.old.buckets_gate_is_open }
     {
         if let Some(filter) = self.filter {
             let (bytes, folds) = rest.unread();
@@ -143,7 +143,7 @@ impl<'a, 'h, A: Allocator> Filter<char, Text<'h>> for Skipping<'a, A> {
         ensures passes { (w : List ℕ) → lets_pass (may_begin self.new.buckets) self.new.filter (encode_utf8_all w) ≡ lets_pass (may_begin self.old.buckets) self.old.filter (encode_utf8_all w) }
         ensures goes { IsNextPassing (λ w. lets_pass (may_begin self.old.buckets) self.old.filter (encode_utf8_all w)) rest.old rest.new }
         ensures records { HasRecordedSkip char_width self.old rest.old rest.new self.new }
-        ensures stays { self.old.buckets ≡ None → self.new.is_open ≡ self.old.is_open }
+        ensures stays { self.old.buckets ≡ None → self.new.buckets_gate_is_open ≡ self.old.buckets_gate_is_open }
     {
         if let Some(filter) = self.filter {
             let (text, folds) = rest.unread();

@@ -3,14 +3,16 @@
 ghost use Rattle.std.specs.Prelude.{◌≡◌, ◌⊎◌, ℕ, ◌+◌, ◌-◌, ◌*◌, ◌<◌, ◌≤◌, ◌==◌, ◌&&◌, ◌||◌, List, length, true, false, slice_index, bit_and, IfOk, IfErr};
 ghost use Rattle.daachorse_core.specs.Refusals.{IsOutOfMemory};
 ghost use Rattle.daachorse_model.specs.Filter.{is_clear};
-ghost use Rattle.daachorse_prefilter.specs.Buckets.{has_slot, is_open, opens};
+ghost use Rattle.daachorse_prefilter.specs.Buckets.{has_slot, is_clear_at, is_open, opens};
 
 use super::Buckets;
 use super::slots::{NUM_SLOTS, slot_of};
 use daachorse_core::errors::Result;
 use std::alloc::{Allocator, Global};
+use std::marker::Model;
 
-/// A builder of [`Buckets`]. It keeps no pattern, only the table of 65,536 bytes.
+/// A builder of [`Buckets`], seen as the table that it would give. It keeps no pattern, only the
+/// table of 65,536 bytes.
 #[derive(Drop)]
 pub struct BucketsBuilder<A: Allocator = Global> {
     entries: Vec<u64, A>,
@@ -18,13 +20,22 @@ pub struct BucketsBuilder<A: Allocator = Global> {
     mask: u64,
     // The length of the shortest pattern.
     shortest: usize,
-    ghost sized: { length entries.items ≡ 8192 },
+}
+
+impl<A: Allocator> Model for BucketsBuilder<A> {
+    ghost use Rattle.std.specs.Prelude.{List, ℕ, ◌≡◌, bit_and, length, map};
+
+    ghost Value = { List ℕ };
+
+    ghost view = { λ b. map (λ e. bit_and e b.mask) b.entries.items };
+
+    ghost invariant = { λ b. length b.entries.items ≡ 8192 };
 }
 
 impl<A: Allocator> BucketsBuilder<A> {
     /// A builder with no pattern. Fails if an allocation does.
     pub fn new(alloc: A) -> Result<Self>
-        ensures none { IfOk result (λ b. (y i : ℕ) → y < 8192 → i < 64 → is_open b.entries.items b.mask y i ≡ false) }
+        ensures none { IfOk result (λ table. (y i : ℕ) → y < 8192 → i < 64 → is_clear_at table y i ≡ false) }
         ensures err { IfErr result IsOutOfMemory }
     {
         Ok(Self {
@@ -37,8 +48,7 @@ impl<A: Allocator> BucketsBuilder<A> {
     /// Adds a pattern to a bucket.
     pub fn add(&mut self, pattern: &[u8], bucket: usize)
         requires bucket { bucket < 8 }
-        ensures { (y i : ℕ) → i < 64 → is_open self.new.entries.items self.new.mask y i
-            ≡ (is_open self.old.entries.items self.old.mask y i || opens pattern.now bucket 8 y i) }
+        ensures { (y i : ℕ) → y < 8192 → i < 64 → is_clear_at self.new y i ≡ (is_clear_at self.old y i || opens pattern.now bucket 8 y i) }
     {
         self.shortest = pattern.len().min(self.shortest);
         mark_places(&mut self.entries, &mut self.mask, pattern, bucket);
@@ -46,7 +56,7 @@ impl<A: Allocator> BucketsBuilder<A> {
 
     /// The buckets of the patterns that were added.
     pub fn close(self) -> Buckets<A>
-        ensures { (y i : ℕ) → y < 8192 → is_clear (slice_index result y) i ≡ is_open self.entries.items self.mask y i }
+        ensures { result ≡ self }
     {
         let mut entries = self.entries;
         close_entries(&mut entries, self.mask);

@@ -10,7 +10,7 @@ const MIN_SKIPPED: usize = 20;
 
 /// A gate before buckets, which closes for good if runs skip too little.
 #[derive(Clone, Copy, Drop)]
-pub struct BucketsGate {
+pub(crate) struct BucketsGate {
     // The runs of a search, and the bytes that they skipped.
     runs: usize,
     skipped: usize,

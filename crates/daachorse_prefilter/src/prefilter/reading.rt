@@ -1,10 +1,9 @@
 //! How a prefilter reads a haystack: as it is, or without regard to the case of ASCII letters.
 
-ghost use Rattle.std.specs.Prelude.{◌≡◌, ◌↔◌, ◌+◌, ◌/◌, ◌%◌, ◌<◌, ◌≤◌, bit_or, ℕ, List, drop, length, map, slice_index};
+ghost use Rattle.std.specs.Prelude.{◌≡◌, ◌↔◌, ◌+◌, ◌/◌, ◌%◌, ◌<◌, ◌≤◌, bit_or, ℕ, List, length, map, slice_index};
 ghost use Rattle.std.specs.Str.{IsCharBoundary};
 
 use super::pair_table::pair_of;
-use crate::place_test::PlaceTest;
 use daachorse_core::ascii_fold::AsciiFold;
 
 /// A way to read bytes.
@@ -25,11 +24,6 @@ pub trait ByteReading {
         requires { place + 1 < length haystack.now }
         ensures first { result % 256 ≡ Self.as_read (slice_index haystack.now place) }
         ensures second { result / 256 ≡ Self.as_read (slice_index haystack.now (place + 1)) };
-
-    /// Whether the test passes at a place of what is read.
-    fn test_passes<T: PlaceTest>(test: &T, haystack: &[u8], place: usize) -> bool
-        requires { place ≤ length haystack.now }
-        ensures { result ≡ T.lets test.now (drop place (map Self.as_read haystack.now)) };
 
     // Each byte is read by itself.
     ghost reads_each: { (text : List ℕ) → read text ≡ map as_read text };
@@ -66,11 +60,6 @@ impl ByteReading for AsItIs {
         u16::from_le_bytes(pairs[0])
     }
 
-    #[inline(always)]
-    fn test_passes<T: PlaceTest>(test: &T, haystack: &[u8], place: usize) -> bool {
-        test.passes(&haystack[place..])
-    }
-
     ghost reads_each = { reads_as_it_is };
 
     ghost same_letter = { letter_as_it_is };
@@ -96,11 +85,6 @@ impl ByteReading for AsFolded {
     #[inline(always)]
     fn pair(haystack: &[u8], place: usize) -> u16 {
         pair_of(haystack[place].folded(), haystack[place + 1].folded())
-    }
-
-    #[inline(always)]
-    fn test_passes<T: PlaceTest>(test: &T, haystack: &[u8], place: usize) -> bool {
-        test.passes_folded(&haystack[place..])
     }
 
     ghost reads_each = { reads_folded };

@@ -1,31 +1,29 @@
-//! The scan of a haystack for the first candidate that passes a test.
+//! The scan of a haystack for the first candidate.
 
-ghost use Rattle.std.specs.Prelude.{◌≡◌, ℕ, ◌+◌, ◌-◌, ◌<◌, ◌≤◌, ◌&&◌, false, length, map, slice_index, MatchOption};
+ghost use Rattle.std.specs.Prelude.{◌≡◌, ℕ, ◌+◌, ◌-◌, ◌<◌, ◌≤◌, true, false, length, map, slice_index, MatchOption};
 ghost use Rattle.daachorse_model.specs.Filter.{is_clear, passes};
 ghost use Rattle.daachorse_prefilter.specs.Places.{IsFirstPlace};
-ghost use Rattle.daachorse_prefilter.specs.Scans.{AreBits, AreRefused, EndsRound, HasEnded, IsFirstAccepted, NonePasses};
+ghost use Rattle.daachorse_prefilter.specs.Scans.{AreBits, EndsRound, HasEnded, IsFirstWindow, NonePasses};
 
 use super::pair_table::PairTable;
 use super::reading::ByteReading;
-use crate::place_test::PlaceTest;
 use std::alloc::Allocator;
 
-/// The first candidate from `pos` on that passes the test, or the haystack's length.
+/// The first candidate from `pos` on, or the haystack's length.
 ///
 /// Bit j of the state is 0 if the last j + 1 pairs may begin a window. A round reads many pairs:
 /// the bit of a window's last pair moves on to the bits above it, so that one look finds all
-/// windows that ended in the round. Only these are tested.
+/// windows that ended in the round.
 #[inline(always)]
-pub(super) fn scan<R: ByteReading, A: Allocator, T: PlaceTest>(
+pub(super) fn scan<R: ByteReading, A: Allocator>(
     table: &PairTable<A>,
-    test: &T,
     window_len: u8,
     haystack: &[u8],
     pos: usize,
 ) -> usize
     requires low { 2 ≤ window_len }
     requires high { window_len ≤ 9 }
-    ensures { IsFirstPlace (λ w. T.lets test.now w && passes (λ pair. slice_index table.now pair) window_len w) (map R.as_read haystack.now) pos result }
+    ensures { IsFirstPlace (λ w. passes (λ pair. slice_index table.now pair) window_len w) (map R.as_read haystack.now) pos result }
 {
     if pos >= haystack.len() {
         return haystack.len();
@@ -41,12 +39,12 @@ pub(super) fn scan<R: ByteReading, A: Allocator, T: PlaceTest>(
         let place = pos + round * num_pairs;
         state = read_round::<R, A>(table, last, haystack, place, num_pairs, state);
         let end = place + num_pairs - 1;
-        if let Some(found) = first_in_round::<R, T>(test, haystack, end, !state & ends) {
+        if let Some(found) = first_in_round(end, !state & ends) {
             return found;
         }
     }
     let place = pos + rounds * num_pairs;
-    scan_rest::<R, A, T>(table, test, last, haystack, pos, place, state)
+    scan_rest::<R, A>(table, last, haystack, pos, place, state)
 }
 
 /// The state after the round whose first pair is at `place`.
@@ -123,37 +121,24 @@ fn read_sixteen<R: ByteReading, A: Allocator>(
     read
 }
 
-/// The first candidate of a round that passes the test. The one of bit b begins at `end - b`, so
-/// the first has the highest bit.
+/// The first candidate of a round, if there is one. That of bit b begins at `end - b`, so the first
+/// has the highest bit.
 #[inline(always)]
-fn first_in_round<R: ByteReading, T: PlaceTest>(
-    test: &T,
-    haystack: &[u8],
-    end: usize,
-    passing: u32,
-) -> Option<usize>
-    requires inside { end ≤ length haystack.now }
-    requires begun { (b : ℕ) → is_clear passing b ≡ false → b ≤ end }
-    ensures { MatchOption result (AreRefused (T.lets test.now) (map R.as_read haystack.now) end passing 0)
-        (IsFirstAccepted (T.lets test.now) (map R.as_read haystack.now) end passing) }
+fn first_in_round(end: usize, passing: u32) -> Option<usize>
+    requires { (b : ℕ) → is_clear passing b ≡ false → b ≤ end }
+    ensures { MatchOption result ((b : ℕ) → is_clear passing b ≡ true) (IsFirstWindow end passing) }
 {
-    let mut left = passing;
-    while left != 0 {
-        let bit = 31 - left.leading_zeros();
-        let found = end - bit as usize;
-        if R::test_passes(test, haystack, found) {
-            return Some(found);
-        }
-        left &= !(1 << bit);
+    if passing == 0 {
+        return None;
     }
-    None
+    let bit = 31 - passing.leading_zeros();
+    Some(end - bit as usize)
 }
 
 /// Ends a [`scan`], when fewer pairs are left than a round reads.
 #[inline(always)]
-fn scan_rest<R: ByteReading, A: Allocator, T: PlaceTest>(
+fn scan_rest<R: ByteReading, A: Allocator>(
     table: &PairTable<A>,
-    test: &T,
     last: u8,
     haystack: &[u8],
     pos: usize,
@@ -164,18 +149,15 @@ fn scan_rest<R: ByteReading, A: Allocator, T: PlaceTest>(
     requires begun { pos ≤ from }
     requires inside { from < length haystack.now }
     requires bits { AreBits table.now (map R.as_read haystack.now) last pos (from + 1) state }
-    requires none { NonePasses (T.lets test.now) table.now (map R.as_read haystack.now) (last + 2) pos (from + 1) }
-    ensures { IsFirstPlace (λ w. T.lets test.now w && passes (λ pair. slice_index table.now pair) (last + 2) w) (map R.as_read haystack.now) pos result }
+    requires none { NonePasses table.now (map R.as_read haystack.now) (last + 2) pos (from + 1) }
+    ensures { IsFirstPlace (λ w. passes (λ pair. slice_index table.now pair) (last + 2) w) (map R.as_read haystack.now) pos result }
 {
     let mut state = state;
     for place in from..haystack.len() - 1 {
         let entry = table.entry(R::pair(haystack, place));
         state = (state << 1) | u32::from(entry);
         if (state >> last) % 2 == 0 {
-            let found = place - last as usize;
-            if R::test_passes(test, haystack, found) {
-                return found;
-            }
+            return place - last as usize;
         }
     }
     haystack.len()

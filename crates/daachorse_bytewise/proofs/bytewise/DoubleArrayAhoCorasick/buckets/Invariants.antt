@@ -5,5 +5,5 @@ use Rattle.daachorse_bytewise.proofs.bytewise.DoubleArrayAhoCorasick.buckets.Giv
 
 abbrev pub invariant-loop-item : goal.invariant-loop-item
 invariant-loop-item g l = record {
-  so_far : AreMarkedSoFar (λ w. w) (dictionary_of l.self) l.item-iterator l.builder.entries.items l.builder.mask;
+  so_far : AreMarkedSoFar (λ w. w) (dictionary_of l.self) l.item-iterator l.builder;
 }

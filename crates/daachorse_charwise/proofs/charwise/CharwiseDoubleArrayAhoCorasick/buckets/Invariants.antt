@@ -6,5 +6,5 @@ use Rattle.daachorse_charwise.proofs.charwise.CharwiseDoubleArrayAhoCorasick.buc
 
 abbrev pub invariant-loop-item : goal.invariant-loop-item
 invariant-loop-item g l = record {
-  so_far : AreMarkedSoFar encode_utf8_all (dictionary_of l.self) l.item-iterator l.builder.entries.items l.builder.mask;
+  so_far : AreMarkedSoFar encode_utf8_all (dictionary_of l.self) l.item-iterator l.builder;
 }

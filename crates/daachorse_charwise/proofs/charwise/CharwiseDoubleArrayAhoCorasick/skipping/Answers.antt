@@ -14,7 +14,7 @@ pub returns : goal.returns
 returns g c = record {
   asks =
       let P : Automaton g.row.V.Denot → Type 0 = λ a. BeginsAsking a.filter c.new.result in
-      subst P c.self.view_is (record { filter = c.new.ensures.filter ∙ c.as_ref.ensures.value; buckets = c.new.ensures.alone; gate = c.new.ensures.gate; is_open = c.new.ensures.is_open });
+      subst P c.self.view_is (record { filter = c.new.ensures.filter ∙ c.as_ref.ensures.value; buckets = c.new.ensures.alone; gate = c.new.ensures.gate; buckets_gate = c.new.ensures.buckets_gate });
   sound =
       let i = c.self.inside in
       let P : Automaton g.row.V.Denot → Type 0 = λ a. IsSoundFor (λ w. lets_pass (may_begin c.new.result.buckets) c.new.result.filter (encode_utf8_all w)) (content a.parts) in

@@ -1,4 +1,4 @@
--- Until the byte at which a round begins no window passed with the test, and the state has the bits of the windows that are still open.
+-- Until the byte at which a round begins no window passed, and the state has the bits of the windows that are still open.
 use Rattle.std.proofs.Common.{◌+◌, ◌*◌, map}
 use Rattle.daachorse_prefilter.specs.Scans.{AreBits, NonePasses}
 use Rattle.daachorse_prefilter.proofs.prefilter.scan.scan.Given as goal
@@ -6,5 +6,5 @@ use Rattle.daachorse_prefilter.proofs.prefilter.scan.scan.Given as goal
 abbrev pub invariant-loop-round : goal.invariant-loop-round
 invariant-loop-round g l = let text = map g.R.ByteReading.as_read l.haystack in record {
   bits : AreBits l.table text l.last l.pos (l.pos + l.round * l.num_pairs + 1) l.state;
-  none : NonePasses (g.T.PlaceTest.lets l.test) l.table text (l.last + 2) l.pos (l.pos + l.round * l.num_pairs + 1);
+  none : NonePasses l.table text (l.last + 2) l.pos (l.pos + l.round * l.num_pairs + 1);
 }

@@ -9,7 +9,7 @@ use Rattle.daachorse_prefilter.proofs.skipping.Skipping.are_open.Goals as goal
 pub returns-then-is_enabled : goal.returns-then-is_enabled
 returns-then-is_enabled g c = λ gains recorded.
     let P : PrefilterGate → Type 0 = λ gate. HasRecorded gate gains in
-    let is_open : c.is_open.result ≡ c.args.self.now.is_open = c.is_open.ensures ∙ ap (λ (s : Asked). s.is_open) c.self.view_is in
+    let is_open : c.is_open.result ≡ c.args.self.now.buckets_gate_is_open = c.is_open.ensures ∙ ap (λ (s : Asked). s.buckets_gate_is_open) c.self.view_is in
     let pays = (c.is_enabled.ensures gains (subst P (sym (ap (λ (s : Asked). s.gate) c.self.view_is)) recorded)).0 c.if-is_enabled.true in
     (λ yes. (pays, sym is_open ∙ yes), λ both. is_open ∙ both.1)
 

@@ -1,18 +1,18 @@
 //! Which bucket each pattern goes to.
 
-ghost use Rattle.std.specs.Prelude.{◌<◌, ◌≤◌};
+ghost use Rattle.std.specs.Prelude.{◌<◌};
 
 /// Patterns of this length and of more are taken alike.
 const MAX_LEN: usize = 9;
-
-/// Patterns of less go to buckets of their own.
-const MIN_LONG: usize = 5;
 
 /// How many buckets there are.
 const NUM_BUCKETS: usize = 8;
 
 /// Fills buckets by length and then in the order in which patterns are shown, which decides speed
 /// alone. All are counted first, and then each is given its bucket.
+///
+/// No two lengths share a bucket while there are enough, since the shorter patterns would open the
+/// later places of the longer ones' windows.
 #[derive(Drop)]
 pub struct Filling {
     // How many patterns of each length there are, and how many have a bucket.
@@ -50,45 +50,33 @@ impl Filling {
         ensures { result < 8 }
     {
         let len = len.min(MAX_LEN);
-        let short = sum(&self.counts, 0, MIN_LONG);
-        let long = sum(&self.counts, MIN_LONG, MAX_LEN + 1);
-        let split = num_short(short, long);
-        let (first, buckets, all) = if len < MIN_LONG {
-            (0, split, short)
-        } else {
-            (MIN_LONG, NUM_BUCKETS - split, long)
-        };
-        let rank = sum(&self.counts, first, len).saturating_add(self.placed[len]);
-        self.placed[len] = self.placed[len].saturating_add(1);
-        let bucket = rank.saturating_mul(buckets) / all.max(1);
-        if len < MIN_LONG {
-            return bucket.min(NUM_BUCKETS - 1);
-        }
-        bucket.saturating_add(split).min(NUM_BUCKETS - 1)
+        let first = self.first_bucket(len);
+        let buckets = self.first_bucket(len + 1).saturating_sub(first);
+        let rank = self.placed[len];
+        self.placed[len] = rank.saturating_add(1);
+        let behind = rank.saturating_mul(buckets) / self.counts[len].max(1);
+        first.saturating_add(behind).min(NUM_BUCKETS - 1)
+    }
+
+    /// The first bucket of this length: each length of some pattern has one, and the rest are
+    /// shared out by how many patterns there are.
+    fn first_bucket(&self, len: usize) -> usize {
+        let (lengths, patterns) = count_shorter(&self.counts, len);
+        let (all_lengths, all) = count_shorter(&self.counts, MAX_LEN + 1);
+        let rest = NUM_BUCKETS.saturating_sub(all_lengths);
+        lengths.saturating_add(patterns.saturating_mul(rest) / all.max(1))
     }
 }
 
-/// How many buckets the short patterns get.
-fn num_short(short: usize, long: usize) -> usize
-    ensures { result ≤ 8 }
-{
-    if short == 0 {
-        return 0;
-    }
-    if long == 0 {
-        return NUM_BUCKETS;
-    }
-    let share = short.saturating_mul(NUM_BUCKETS) / short.saturating_add(long).max(1);
-    share.max(1).min(NUM_BUCKETS - 1)
-}
-
-/// How many patterns have a length from one on and below another.
-fn sum(counts: &[usize], from: usize, to: usize) -> usize {
-    let mut sum = 0usize;
-    for len in from..to {
-        if len < counts.len() {
-            sum = sum.saturating_add(counts[len]);
+/// How many shorter lengths some pattern has, and how many patterns have these.
+fn count_shorter(counts: &[usize], len: usize) -> (usize, usize) {
+    let mut lengths = 0usize;
+    let mut patterns = 0usize;
+    for shorter in 0..len {
+        if shorter < counts.len() {
+            lengths = lengths.saturating_add(counts[shorter].min(1));
+            patterns = patterns.saturating_add(counts[shorter]);
         }
     }
-    sum
+    (lengths, patterns)
 }

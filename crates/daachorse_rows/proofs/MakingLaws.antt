@@ -3,18 +3,16 @@ use Rattle.std.proofs.Common.{◌≡◌, ◌≢◌, ℕ, zero, suc, ◌+◌, ◌
 use Rattle.std.specs.Prelude.{slice_index, slice_set, Option, None}
 use Rattle.std.specs.declared.num.NonZeroU32.{NonZeroU32}
 use Rattle.std.proofs.Math.Seq.{get_or-append_seam}
-use Rattle.std.proofs.Math.Nat.{div-mul-le_self, mul_assoc}
+use Rattle.std.proofs.Math.Nat.{div-mul-le_self, le-div_iff_mul-le, mul_assoc}
 use Rattle.std.proofs.lemmas.Nat.{mul-add-lt, mul-le}
 use Rattle.std.proofs.lemmas.Bool.{cases_eq}
 use Rattle.std.proofs.lemmas.List.{get_or_append_left, get_or-map, get_or-set_same, get_or-set_other, length-map, length-set}
 use Rattle.daachorse_core.specs.Looks.{IsForeign}
-use Rattle.daachorse_model.specs.Dictionary.{Dictionary}
 use Rattle.daachorse_model.proofs.Steps.{IsLong-same}
 use Rattle.daachorse_model.proofs.Lists.{below_or_at}
-use Rattle.daachorse_core.specs.declared.turns.Look.TheVariants.{Fail}
-use Rattle.daachorse_search.specs.Views.{AutomatonView, HasFirst, SeesLook, Steps}
-use Rattle.daachorse_search.proofs.LookLaws.{StepEnds-link, StepEnds-long}
-use Rattle.daachorse_rows.specs.Rows.{state_at, RowTable, IsChoice, IsSlotEntry, StandsFor, IsSlotOf, AreSlots, StepLeads, AreLabels, AreRows, Stands, AreChosen, AreClosed, AreStepped, ClosesOrFills, Covers, HaveRows, IsEntry, IsSlot, AreWritten, MayClose, TellsStep, row_places, stands_by}
+use Rattle.daachorse_search.specs.Views.{HasFirst}
+use Rattle.daachorse_search.proofs.LookLaws.{StepEnds-long}
+use Rattle.daachorse_rows.specs.Rows.{state_at, RowTable, IsChoice, IsSlotEntry, StandsFor, IsSlotOf, AreSlots, StepLeads, AreLabelled, AreRows, Labelled, Leads, Stands, StepsAs, AreChosen, AreClosed, AreStepped, ClosesOrFills, Covers, HaveRows, IsEntry, IsSlot, AreWritten, MayClose, TellsStep, most_rows, row_places, stands_by}
 use Rattle.daachorse_rows.proofs.RowLaws.{place_behind, row_below, state_at-slot}
 
 -- what is read of a list to which one item was added
@@ -31,31 +29,12 @@ module _ {L : Type 0} (number : L → ℕ) where
   pub number_read : (labels : List L) (k : ℕ) (label : L) → k < length labels → label ≡ get_or labels k label → slice_index (map number labels) k ≡ number label
   number_read labels k label less is = get_or-map number labels k label 0 less ∙ ap number (sym is)
 
-  -- what stands by the number of a label in hand, the label stands for
-  pub stands_own : (exact : (a b : L) → number a ≡ number b → a ≡ b) (stands : L → ℕ → Type 0) (label : L) (n unit : ℕ) → n ≡ number label → stands_by number stands n unit → stands label unit
-  stands_own exact stands label n unit is (other, named, coded) = let P : L → Type 0 = λ l. stands l unit in subst P (exact other label (named ∙ is)) coded
-
-  -- a listed label that was read stands for some unit
-  pub unit_read : {V : Type 0} (K : Dictionary V) (exact : (a b : L) → number a ≡ number b → a ≡ b) (stands : L → ℕ → Type 0) (labels : List L) (k : ℕ) (label : L) → AreLabels K (stands_by number stands) (map number labels) → k < length labels
-      → label ≡ get_or labels k label → (unit : ℕ) × stands label unit
-  unit_read K exact stands labels k label named less is =
-      let some = named.none_idle k (omega (arith, less, length-map labels number)) in
-      (some.0, stands_own exact stands label (slice_index (map number labels) k) some.0 (number_read labels k label less is) some.1)
-
-  -- where a step by a listed label that was read ends
-  pub ends_read : {V : Type 0} (view : AutomatonView V) (exact : (a b : L) → number a ≡ number b → a ≡ b) (stands : L → ℕ → Type 0) (labels : List L) (k : ℕ) (label : L) (s state t : ℕ) → k < length labels
-      → label ≡ get_or labels k label → state ≡ s → ((unit : ℕ) → stands label unit → Steps view state unit t) → (unit : ℕ) → stands_by number stands (slice_index (map number labels) k) unit → Steps view s unit t
-  ends_read view exact stands labels k label s state t less is same ends unit coded =
-      let P : ℕ → Type 0 = λ x. Steps view x unit t in
-      subst P same (ends unit (stands_own exact stands label (slice_index (map number labels) k) unit (number_read labels k label less is) coded))
-
-  -- where a look by it tells a link, the step ends as from there
-  pub link_read : {V : Type 0} (view : AutomatonView V) (exact : (a b : L) → number a ≡ number b → a ≡ b) (stands : L → ℕ → Type 0) (labels : List L) (k : ℕ) (label : L) (s state link : ℕ) → k < length labels
-      → label ≡ get_or labels k label → state ≡ s → ((unit : ℕ) → stands label unit → SeesLook view state unit (Fail link)) → (unit t : ℕ) → stands_by number stands (slice_index (map number labels) k) unit → Steps view link unit t → Steps view s unit t
-  link_read view exact stands labels k label s state link less is same looks unit t coded ends =
-      let look = looks unit (stands_own exact stands label (slice_index (map number labels) k) unit (number_read labels k label less is) coded) in
-      let P : ℕ → Type 0 = λ x. Steps view x unit t in
-      subst P same (StepEnds-link view _ _ (view.text t) unit look.1 look.2 look.3 ends)
+  -- what stands by its number, it stands for
+  pub stands_read : (exact : (a b : L) → number a ≡ number b → a ≡ b) (stands : L → ℕ → Type 0) (labels : List L) (k : ℕ) (other : L) → k < length (map number labels)
+      → (unit : ℕ) → stands_by number stands (slice_index (map number labels) k) unit → stands (get_or labels k other) unit
+  stands_read exact stands labels k other less unit (label, named, coded) =
+      let P : L → Type 0 = λ l. stands l unit in
+      subst P (exact label (get_or labels k other) (named ∙ get_or-map number labels k other 0 (omega (arith, less, length-map labels number)))) coded
 
 -- ---- the slots of labels
 
@@ -107,13 +86,20 @@ even_place k width half is = (k * half, ap (λ n. k * n) is ∙ sym (mul_assoc k
 pub fits_rows : (n w : ℕ) → n ≤ 63168 / w → n * w ≤ 63168
 fits_rows n w few = omega (arith, mul-le n w (63168 / w) w few (omega arith), div-mul-le_self 63168 w)
 
-pub HaveRows-chosen : {V : Type 0} (view : AutomatonView V) (order homes : List ℕ) (width n : ℕ) → width ≡ row_places n → AreChosen view order homes (63168 / width) → HaveRows order homes width
-HaveRows-chosen view order homes width n is chosen = record {
+-- there is room for a row, and for no more than its table may tell
+pub most_fits : {V : Type 0} (seen : Labelled V) → AreLabelled seen → (0 < most_rows seen) × (most_rows seen < 65535)
+most_fits seen named =
+    let wide : 1 ≤ seen.width = omega (arith, named.width) in
+    let fits : 1 * seen.width ≤ 63168 = omega (arith, named.width, named.few) in
+    ((le-div_iff_mul-le wide).1 fits, omega (arith, div-mul-le_self 63168 seen.width, mul-le (63168 / seen.width) 1 (63168 / seen.width) seen.width (omega arith) wide))
+
+pub HaveRows-chosen : {V : Type 0} (seen : Labelled V) (order homes : List ℕ) → AreLabelled seen → AreChosen seen order homes → HaveRows order homes seen.width
+HaveRows-chosen seen order homes named chosen = record {
   homes = chosen.homes;
   own = chosen.own;
-  few = fits_rows (length order) width chosen.few;
-  wide = omega (arith, is);
-  even = ((n + 6) / 4, is);
+  few = fits_rows (length order) seen.width chosen.few;
+  wide = omega (arith, named.width);
+  even = ((length seen.labels + 6) / 4, named.width);
 }
 
 -- a state has a row where its place is before the end of the rows, and its slot holds that place
@@ -128,9 +114,9 @@ IsEntry-inside order homes width x s v quiet rows place before is = inr (record 
     even (inl (k, below, at, state)) = let h = even_place k width rows.even.0 rows.even.1 in (h.0, at ∙ h.1)
     even (inr (at, none)) = absurd (omega (arith, at, before))
 
-module _ {V : Type 0} (view : AutomatonView V) (order homes : List ℕ) (most : ℕ) where
+module _ {V : Type 0} (seen : Labelled V) (order homes : List ℕ) where
   -- there are none yet
-  pub AreChosen-none : order ≡ [] → ((s : ℕ) → s < length homes → slice_index homes s ≡ 65535) → most < 65535 → ((s : ℕ) → view.reached s → (s < length homes) × (s + 65536 < 2 ^ 32)) → AreChosen view order homes most
+  pub AreChosen-none : order ≡ [] → ((s : ℕ) → s < length homes → slice_index homes s ≡ 65535) → most_rows seen < 65535 → ((s : ℕ) → seen.view.reached s → (s < length homes) × (s + 65536 < 2 ^ 32)) → AreChosen seen order homes
   AreChosen-none none_chosen no_homes room small = record {
     states = λ k below. absurd (omega (arith, below, ap length none_chosen));
     homes = λ s below some. absurd (some (no_homes s below));
@@ -141,14 +127,14 @@ module _ {V : Type 0} (view : AutomatonView V) (order homes : List ℕ) (most : 
     fits = λ s there. (small s there).1;
   }
 
-  module _ (h : AreChosen view order homes most) where
+  module _ (h : AreChosen seen order homes) where
     -- one state more, whose row is the next
-    pub AreChosen-more : (s : ℕ) (order' homes' : List ℕ) → order' ≡ order ++ s ∷ [] → homes' ≡ slice_set homes s (length order) → slice_index homes s ≡ 65535 → length order < most → view.reached s → AreChosen view order' homes' most
+    pub AreChosen-more : (s : ℕ) (order' homes' : List ℕ) → order' ≡ order ++ s ∷ [] → homes' ≡ slice_set homes s (length order) → slice_index homes s ≡ 65535 → length order < most_rows seen → seen.view.reached s → AreChosen seen order' homes'
     AreChosen-more s order' homes' is at none less there = record {
       states = λ k below.
           elim (below_or_at k (length order) (count k below)) [
-            | inl old ↦ let P : ℕ → Type 0 = λ x. view.reached x in subst P (sym (read-old order order' s k is old)) (h.states k old)
-            | inr new ↦ let P : ℕ → Type 0 = λ x. view.reached x in subst P (sym (read-new order order' s k is new)) there
+            | inl old ↦ let P : ℕ → Type 0 = λ x. seen.view.reached x in subst P (sym (read-old order order' s k is old)) (h.states k old)
+            | inr new ↦ let P : ℕ → Type 0 = λ x. seen.view.reached x in subst P (sym (read-new order order' s k is new)) there
           ];
       homes = λ q below some.
           elim (cases_eq q s) [
@@ -195,12 +181,12 @@ module _ {V : Type 0} (view : AutomatonView V) (order homes : List ℕ) (most : 
 
 -- ---- the slots of the rows
 
-module _ {V : Type 0} (unit_width : ℕ → ℕ) (view : AutomatonView V) (stands : ℕ → ℕ → Type 0) (labels order : List ℕ) (width : ℕ) where
+module _ {V : Type 0} (unit_width : ℕ → ℕ) (seen : Labelled V) (order : List ℕ) where
   abbrev Slot : ℕ → ℕ → ℕ → Type 0
-  Slot k c v = IsSlot unit_width view stands labels order width k c v
+  Slot k c v = IsSlot unit_width seen order k c v
 
   abbrev Written : ℕ → ℕ → List ℕ → Type 0
-  Written k c top = AreWritten unit_width view stands labels order width k c top
+  Written k c top = AreWritten unit_width seen order k c top
 
   pub AreWritten-none : (top : List ℕ) → top ≡ [] → Written 0 0 top
   AreWritten-none top none = record {
@@ -215,93 +201,91 @@ module _ {V : Type 0} (unit_width : ℕ → ℕ) (view : AutomatonView V) (stand
     size = omega (arith, h.size, next, ap length is, length-append top (v ∷ []));
     rows = λ k' c' above within.
         let P : ℕ → Type 0 = λ x. Slot k' c' x in
-        subst P (sym (read-old top top' v (2 * (k' * width) + c') is (omega (arith, h.size, row_below k' k width c' above within)))) (h.rows k' c' above within);
+        subst P (sym (read-old top top' v (2 * (k' * seen.width) + c') is (omega (arith, h.size, row_below k' k seen.width c' above within)))) (h.rows k' c' above within);
     row = λ c' below.
         let P : ℕ → Type 0 = λ x. Slot k c' x in
         elim (below_or_at c' c (omega (arith, below, next))) [
-          | inl old ↦ subst P (sym (read-old top top' v (2 * (k * width) + c') is (omega (arith, old, h.size)))) (h.row c' old)
+          | inl old ↦ subst P (sym (read-old top top' v (2 * (k * seen.width) + c') is (omega (arith, old, h.size)))) (h.row c' old)
           | inr new ↦
               let Q : ℕ → Type 0 = λ x. Slot k x v in
-              subst P (sym (read-new top top' v (2 * (k * width) + c') is (omega (arith, new, h.size)))) (subst Q (sym new) slot)
+              subst P (sym (read-new top top' v (2 * (k * seen.width) + c') is (omega (arith, new, h.size)))) (subst Q (sym new) slot)
         ];
   }
 
   -- a whole row: behind the slots of its labels nothing is told
-  pub AreWritten-next : (k c : ℕ) (top top' : List ℕ) → Written k c top → width ≡ row_places (length labels) → c ≡ 3 + length labels → length top' ≡ 2 * ((k + 1) * width) → ((i : ℕ) → i < length top → slice_index top' i ≡ slice_index top i) → Written (k + 1) 0 top'
+  pub AreWritten-next : (k c : ℕ) (top top' : List ℕ) → Written k c top → seen.width ≡ row_places (length seen.labels) → c ≡ 3 + length seen.labels → length top' ≡ 2 * ((k + 1) * seen.width) → ((i : ℕ) → i < length top → slice_index top' i ≡ slice_index top i) → Written (k + 1) 0 top'
   AreWritten-next k c top top' h is all size same = record {
     size = omega (arith, size);
     rows = λ k' c' above within.
         elim (below_or_at k' k above) [
           | inl old ↦
               let P : ℕ → Type 0 = λ x. Slot k' c' x in
-              subst P (sym (same (2 * (k' * width) + c') (omega (arith, h.size, row_below k' k width c' old within)))) (h.rows k' c' old within)
-          | inr new ↦ let P : ℕ → Type 0 = λ x. Slot x c' (slice_index top' (2 * (x * width) + c')) in subst P (sym new) (here c')
+              subst P (sym (same (2 * (k' * seen.width) + c') (omega (arith, h.size, row_below k' k seen.width c' old within)))) (h.rows k' c' old within)
+          | inr new ↦ let P : ℕ → Type 0 = λ x. Slot x c' (slice_index top' (2 * (x * seen.width) + c')) in subst P (sym new) (here c')
         ];
     row = λ c' below. absurd (omega (arith, below));
   }
     where
-      here : (c' : ℕ) → Slot k c' (slice_index top' (2 * (k * width) + c'))
-      here zero = same (2 * (k * width) + 0) (omega (arith, h.size, all)) ∙ h.row 0 (omega (arith, all))
-      here (suc zero) = same (2 * (k * width) + 1) (omega (arith, h.size, all)) ∙ h.row 1 (omega (arith, all))
+      here : (c' : ℕ) → Slot k c' (slice_index top' (2 * (k * seen.width) + c'))
+      here zero = same (2 * (k * seen.width) + 0) (omega (arith, h.size, all)) ∙ h.row 0 (omega (arith, all))
+      here (suc zero) = same (2 * (k * seen.width) + 1) (omega (arith, h.size, all)) ∙ h.row 1 (omega (arith, all))
       here (suc (suc c')) = λ label byte slot.
-          let before : suc (suc c') < c = omega (arith, all, slot_inside labels label (suc (suc c')) slot) in
+          let before : suc (suc c') < c = omega (arith, all, slot_inside seen.labels label (suc (suc c')) slot) in
           let P : ℕ → Type 0 = λ x. Slot k (suc (suc c')) x in
-          subst P (sym (same (2 * (k * width) + suc (suc c')) (omega (arith, h.size, before)))) (h.row (suc (suc c')) before) label byte slot
+          subst P (sym (same (2 * (k * seen.width) + suc (suc c')) (omega (arith, h.size, before)))) (h.row (suc (suc c')) before) label byte slot
 
   -- the entry of a state whose outputs begin at this position
-  entry_first : (s v : ℕ) (o : Option NonZeroU32) → IsEntry order width s (o ≡ None) v → HasFirst unit_width view s o → IsEntry order width s (HasFirst unit_width view s None) v
+  entry_first : (s v : ℕ) (o : Option NonZeroU32) → IsEntry order seen.width s (o ≡ None) v → HasFirst unit_width seen.view s o → IsEntry order seen.width s (HasFirst unit_width seen.view s None) v
   entry_first s v o (inl outside) at = inl outside
   entry_first s v o (inr entry) at =
-      let P : Option NonZeroU32 → Type 0 = λ p. HasFirst unit_width view s p in
-      inr (IsSlotEntry-map (length order * width) (λ x. Stands order width x s) (λ x. Stands order width x s) (o ≡ None) (HasFirst unit_width view s None) v entry (λ x there. there) (λ none. subst P none at))
+      let P : Option NonZeroU32 → Type 0 = λ p. HasFirst unit_width seen.view s p in
+      inr (IsSlotEntry-map (length order * seen.width) (λ x. Stands order seen.width x s) (λ x. Stands order seen.width x s) (o ≡ None) (HasFirst unit_width seen.view s None) v entry (λ x there. there) (λ none. subst P none at))
 
-  module _ (named : AreLabels view.content stands labels) where
-    foreign : (label unit : ℕ) → label < 638 → stands label unit → ((k : ℕ) → k < length labels → slice_index labels k ≢ label) → IsForeign view.content unit
-    foreign label unit byte coded none = elim (named.all label unit byte coded) [ inl f ↦ f | inr at ↦ absurd (none at.0 at.1 at.2) ]
+  module _ (named : AreLabelled seen) where
+    foreign : (label unit : ℕ) → label < 638 → seen.stands label unit → ((k : ℕ) → k < length seen.labels → slice_index seen.labels k ≢ label) → IsForeign seen.view.content unit
+    foreign label unit byte coded none = elim (named.labels.all label unit byte coded) [ inl f ↦ f | inr at ↦ absurd (none at.0 at.1 at.2) ]
 
     -- the labels that are not listed lead to the root
-    pub slot_foreign : (k v s : ℕ) (o : Option NonZeroU32) → IsEntry order width s (o ≡ None) v → HasFirst unit_width view s o → view.reached s → view.text s ≡ [] → Slot k 2 v
+    pub slot_foreign : (k v s : ℕ) (o : Option NonZeroU32) → IsEntry order seen.width s (o ≡ None) v → HasFirst unit_width seen.view s o → seen.view.reached s → seen.view.text s ≡ [] → Slot k 2 v
     slot_foreign k v s o entry at there empty label byte slot = (s, entry_first s v o entry at, leads slot, λ _. empty)
       where
-        leads : IsSlotOf labels label 2 → StepLeads view stands (slice_index order k) label s
+        leads : IsSlotOf seen.labels label 2 → StepLeads seen.view seen.stands (slice_index order k) label s
         leads (inl (j, below, here, is)) = absurd (omega (arith, is))
         leads (inr (is, none)) = record { is_state = there; ends = λ unit coded. inl (foreign label unit byte coded none, empty) }
 
-    -- a listed label leads to where the step ends
-    pub slot_step : (k c j v t : ℕ) (o : Option NonZeroU32) → c ≡ 3 + j → IsEntry order width t (o ≡ None) v → HasFirst unit_width view t o → view.reached t
-        → ((unit : ℕ) → stands (slice_index labels j) unit → Steps view (slice_index order k) unit t) → Slot k c v
-    slot_step k c j v t o at entry told there ends = let P : ℕ → Type 0 = λ x. Slot k x v in subst P (let e : suc (suc (suc j)) ≡ c = omega (arith, at) in e) (λ label byte slot. (t, entry_first t v o entry told, leads label slot, λ two. absurd (omega (arith, two))))
-      where
-        leads : (label : ℕ) → IsSlotOf labels label (suc (suc (suc j))) → StepLeads view stands (slice_index order k) label t
-        leads label (inl (i, below, here, is)) =
-            let same : i ≡ j = omega (arith, is) in
-            let named_j : slice_index labels j ≡ label = ap (slice_index labels) (sym same) ∙ here in
-            let Q : ℕ → Type 0 = λ l. (unit : ℕ) → stands l unit → Steps view (slice_index order k) unit t in
-            record { is_state = there; ends = subst Q named_j ends }
-        leads label (inr (is, none)) = absurd (omega (arith, is))
+  -- the slot of a listed label is that of no other
+  slot_own : (j label : ℕ) → IsSlotOf seen.labels label (suc (suc (suc j))) → slice_index seen.labels j ≡ label
+  slot_own j label (inl (i, below, here, is)) = let same : j ≡ i = omega (arith, is) in ap (slice_index seen.labels) same ∙ here
+  slot_own j label (inr (is, none)) = absurd (omega (arith, is))
+
+  -- a listed label leads to where the step ends
+  pub slot_step : (k c j v t : ℕ) (o : Option NonZeroU32) → c ≡ 3 + j → IsEntry order seen.width t (o ≡ None) v → HasFirst unit_width seen.view t o → Leads seen (slice_index order k) j t → Slot k c v
+  slot_step k c j v t o at entry told leads =
+      let e : suc (suc (suc j)) ≡ c = omega (arith, at) in
+      let P : ℕ → Type 0 = λ x. Slot k x v in
+      let Q : ℕ → Type 0 = λ l. StepLeads seen.view seen.stands (slice_index order k) l t in
+      subst P e (λ label byte slot. (t, entry_first t v o entry told, subst Q (slot_own j label slot) leads, λ two. absurd (omega (arith, two))))
 
   -- where a look tells a link, the step ends as from there, so that the slot of the link's row serves
-  pub slot_link : (k j l c v : ℕ) → c ≡ 3 + l → Slot j c v → ((unit t : ℕ) → stands (slice_index labels l) unit → Steps view (slice_index order j) unit (t) → Steps view (slice_index order k) unit t) → Slot k c v
+  pub slot_link : (k j l c v : ℕ) → c ≡ 3 + l → Slot j c v → StepsAs seen (slice_index order k) l (slice_index order j) → Slot k c v
   slot_link k j l c v at slot on =
       let e : suc (suc (suc l)) ≡ c = omega (arith, at) in
       let P : ℕ → Type 0 = λ x. Slot k x v in
       let Q : ℕ → Type 0 = λ x. Slot j x v in
-      subst P e (go (subst Q (sym e) slot))
-    where
-      named : (label : ℕ) → IsSlotOf labels label (suc (suc (suc l))) → (unit : ℕ) → stands label unit → stands (slice_index labels l) unit
-      named label (inl (i, below, here, is)) unit coded =
-          let same : i ≡ l = omega (arith, is) in
-          let P : ℕ → Type 0 = λ n. stands n unit in
-          subst P (sym here ∙ ap (slice_index labels) same) coded
-      named label (inr (is, none)) unit coded = absurd (omega (arith, is))
+      let told_by : Slot j (suc (suc (suc l))) v = subst Q (sym e) slot in
+      subst P e (λ label byte here.
+      let told = told_by label byte here in
+      let R : ℕ → ℕ → Type 0 = λ unit n. seen.stands n unit in
+      (told.0, told.1, record { is_state = told.2.is_state; ends = λ unit coded. on unit told.0 (subst (R unit) (sym (slot_own l label here)) coded) (told.2.ends unit coded) }, told.3))
 
-      go : Slot j (suc (suc (suc l))) v → Slot k (suc (suc (suc l))) v
-      go told_by = λ label byte here.
-          let told = told_by label byte here in
-          (told.0, told.1, record { is_state = told.2.is_state; ends = λ unit coded. on unit told.0 (named label here unit coded) (told.2.ends unit coded) }, told.3)
+module _ {V : Type 0} (unit_width : ℕ → ℕ) (seen : Labelled V) (table : RowTable) (order : List ℕ)
+    (count_is : table.count ≡ length order) (named : AreLabelled seen) (w : AreWritten unit_width seen order (length order) 0 table.top) where
+  abbrev r : RowTable
+  r = record table { width = seen.width }
 
-module _ {V : Type 0} (unit_width : ℕ → ℕ) (view : AutomatonView V) (stands : ℕ → ℕ → Type 0) (labels : List ℕ) (r : RowTable) (order : List ℕ)
-    (count_is : r.count ≡ length order) (wide : 0 < r.width) (w : AreWritten unit_width view stands labels order r.width (length order) 0 r.top) where
+  wide : 0 < seen.width
+  wide = omega (arith, named.width)
+
   at_start : (k : ℕ) → k < length order → state_at r.top (k * r.width) ≡ slice_index order k
   at_start k below =
       let e : 2 * (k * r.width) ≡ 2 * (k * r.width) + 0 = omega arith in
@@ -331,8 +315,8 @@ module _ {V : Type 0} (unit_width : ℕ → ℕ) (view : AutomatonView V) (stand
   row_place x t (inl (k, below, is, at)) row = omega (arith, is, end_is, mul-add-lt k r.width 0 (length order) below wide)
   row_place x t (inr (is, none)) row = absurd (none row.0 row.1 row.2)
 
-  module _ (is : r.width ≡ row_places (length labels)) (slots : AreSlots labels 638 r.classes) (choice : IsChoice view stands labels order r.homes (63168 / r.width))
-      (s : ℕ) (place : Stands order r.width r.root s) (there : view.reached s) (empty : view.text s ≡ []) where
+  module _ (slots : AreSlots seen.labels 638 r.classes) (choice : IsChoice seen order r.homes)
+      (s : ℕ) (place : Stands order r.width r.root s) (there : seen.view.reached s) (empty : seen.view.text s ≡ []) where
     abbrev class : ℕ → ℕ
     class label = slice_index r.classes label
 
@@ -340,35 +324,35 @@ module _ {V : Type 0} (unit_width : ℕ → ℕ) (view : AutomatonView V) (stand
     slot k label = slice_index r.top (2 * (k * r.width) + class label)
 
     few : length order * r.width ≤ 63168
-    few = fits_rows (length order) r.width choice.chosen.few
+    few = fits_rows (length order) seen.width choice.chosen.few
 
-    tells : (k label : ℕ) → k < length order → label < 638 → TellsStep unit_width view stands labels order r.width k (class label) (slot k label) label
-    tells k label more less = by (slot_some labels label (class label) (slots.right label less))
+    tells : (k label : ℕ) → k < length order → label < 638 → TellsStep unit_width seen order k (class label) (slot k label) label
+    tells k label more less = by (slot_some seen.labels label (class label) (slots.right label less))
       where
-        by : (c : ℕ) × (class label ≡ suc (suc c)) → TellsStep unit_width view stands labels order r.width k (class label) (slot k label) label
+        by : (c : ℕ) × (class label ≡ suc (suc c)) → TellsStep unit_width seen order k (class label) (slot k label) label
         by (c, at) =
-            let P : ℕ → Type 0 = λ x. IsSlot unit_width view stands labels order r.width k x (slice_index r.top (2 * (k * r.width) + x)) in
-            let Q : ℕ → Type 0 = λ x. IsSlotOf labels label x in
-            let T : ℕ → Type 0 = λ x. TellsStep unit_width view stands labels order r.width k x (slice_index r.top (2 * (k * r.width) + x)) label in
-            subst T (sym at) (subst P at (w.rows k (class label) more (slot_fits labels label (class label) r.width is (slots.right label less))) label less (subst Q at (slots.right label less)))
+            let P : ℕ → Type 0 = λ x. IsSlot unit_width seen order k x (slice_index r.top (2 * (k * r.width) + x)) in
+            let Q : ℕ → Type 0 = λ x. IsSlotOf seen.labels label x in
+            let T : ℕ → Type 0 = λ x. TellsStep unit_width seen order k x (slice_index r.top (2 * (k * r.width) + x)) label in
+            subst T (sym at) (subst P at (w.rows k (class label) more (slot_fits seen.labels label (class label) seen.width named.width (slots.right label less))) label less (subst Q at (slots.right label less)))
 
-    are_rows : AreRows unit_width view stands r
+    are_rows : AreRows unit_width seen.view seen.stands r
     are_rows = record {
       size = omega (arith, w.size, end_is);
       few = omega (arith, end_is, few);
       wide = wide;
       classes_size = slots.size;
-      inside = λ label less. slot_fits labels label (class label) r.width is (slots.right label less);
+      inside = λ label less. slot_fits seen.labels label (class label) seen.width named.width (slots.right label less);
       right = λ k label more less.
           let row : k < length order = omega (arith, more, count_is) in
           let told = tells k label row less in
-          let R : ℕ → Type 0 = λ x. StepLeads view stands x label told.0 in
-          let E : ℕ → Type 0 = λ n. IsSlotEntry n (λ x. StandsFor r x told.0) (HasFirst unit_width view told.0 None) (slot k label) in (
+          let R : ℕ → Type 0 = λ x. StepLeads seen.view seen.stands x label told.0 in
+          let E : ℕ → Type 0 = λ n. IsSlotEntry n (λ x. StandsFor r x told.0) (HasFirst unit_width seen.view told.0 None) (slot k label) in (
             told.0,
             subst R (sym (at_start k row)) told.2,
             elim told.1 [
               | inl outside ↦ inl (outside.0, λ j below same. let before : j < length order = omega (arith, below, count_is) in outside.1 j before (sym (at_start j before) ∙ same))
-              | inr holds ↦ inr (subst E end_is (IsSlotEntry-map (length order * r.width) (λ x. Stands order r.width x told.0) (λ x. StandsFor r x told.0) (HasFirst unit_width view told.0 None) (HasFirst unit_width view told.0 None) _ holds (λ x here. stands_for x told.0 here) (λ q. q)))
+              | inr holds ↦ inr (subst E end_is (IsSlotEntry-map (length order * r.width) (λ x. Stands order r.width x told.0) (λ x. StandsFor r x told.0) (HasFirst unit_width seen.view told.0 None) (HasFirst unit_width seen.view told.0 None) _ holds (λ x here. stands_for x told.0 here) (λ q. q)))
             ],
           );
       homes = λ t within some. let home = choice.chosen.homes t within some in (omega (arith, home.0, count_is), at_start (slice_index r.homes t) home.0 ∙ home.1);
@@ -377,36 +361,36 @@ module _ {V : Type 0} (unit_width : ℕ → ℕ) (view : AutomatonView V) (stand
     }
 
     -- where each step from a row ends in a row, the rows are closed
-    are_closed : (most : ℕ) → AreLabels view.content stands labels → AreStepped view stands labels (length order) order → MayClose most view stands → AreClosed most stands r
-    are_closed most named stepped may = record {
+    are_closed : (most : ℕ) → AreStepped seen (length order) order → MayClose most seen.view seen.stands → AreClosed most seen.stands r
+    are_closed most stepped may = record {
       slots = may.slots;
       root = row_place r.root s place (row_of_root s there empty);
       stays = λ k label more less. let row : k < length order = omega (arith, more, count_is) in in_row k label (tells k label row less).1 (row_of k label row less (slots.right label less));
     }
       where
-        row_of_root : (t : ℕ) → view.reached t → view.text t ≡ [] → (k : ℕ) × (k < length order) × (slice_index order k ≡ t)
+        row_of_root : (t : ℕ) → seen.view.reached t → seen.view.text t ≡ [] → (k : ℕ) × (k < length order) × (slice_index order k ≡ t)
         row_of_root t here none = (0, stepped.root.0, may.single (slice_index order 0) t (choice.chosen.states 0 stepped.root.0) here (stepped.root.1 ∙ sym none))
 
-        in_row : (k label : ℕ) {t : ℕ} → IsEntry order r.width t (HasFirst unit_width view t None) (slot k label) → (j : ℕ) × (j < length order) × (slice_index order j ≡ t) → slot k label ≢ 65535
+        in_row : (k label : ℕ) {t : ℕ} → IsEntry order r.width t (HasFirst unit_width seen.view t None) (slot k label) → (j : ℕ) × (j < length order) × (slice_index order j ≡ t) → slot k label ≢ 65535
         in_row k label (inl outside) row = absurd (outside.1 row.0 row.1 row.2)
         in_row k label (inr holds) row = λ none. elim holds.is [ inl low ↦ omega (arith, low.0, holds.inside, few, none) | inr high ↦ omega (arith, high, holds.inside, few, none) ]
 
-        row_of : (k label : ℕ) (more : k < length order) (less : label < 638) → IsSlotOf labels label (class label) → (j : ℕ) × (j < length order) × (slice_index order j ≡ (tells k label more less).0)
+        row_of : (k label : ℕ) (more : k < length order) (less : label < 638) → IsSlotOf seen.labels label (class label) → (j : ℕ) × (j < length order) × (slice_index order j ≡ (tells k label more less).0)
         row_of k label more less (inr (two, none)) = let told = tells k label more less in row_of_root told.0 told.2.is_state (told.3 two)
         row_of k label more less (inl (j, below, here, at)) =
             let told = tells k label more less in
-            let some = named.none_idle j below in
+            let some = named.labels.none_idle j below in
             let row = stepped.ends k j more below in
-            let U : ℕ → Type 0 = λ l. stands l some.0 in
-            let text : List ℕ = view.text (slice_index order k) in
-            let own = StepEnds-long view text (view.text told.0) some.0 (told.2.ends some.0 (subst U here some.1)) may.alive in
-            let other = StepEnds-long view text (view.text (slice_index order row.0)) some.0 (row.2 some.0 some.1) may.alive in
-            (row.0, row.1, may.single (slice_index order row.0) told.0 (choice.chosen.states row.0 row.1) told.2.is_state (IsLong-same view.content (text ++ some.0 ∷ []) (view.text (slice_index order row.0)) (view.text told.0) other own))
+            let U : ℕ → Type 0 = λ l. seen.stands l some.0 in
+            let text : List ℕ = seen.view.text (slice_index order k) in
+            let own = StepEnds-long seen.view text (seen.view.text told.0) some.0 (told.2.ends some.0 (subst U here some.1)) may.alive in
+            let other = StepEnds-long seen.view text (seen.view.text (slice_index order row.0)) some.0 (row.2 some.0 some.1) may.alive in
+            (row.0, row.1, may.single (slice_index order row.0) told.0 (choice.chosen.states row.0 row.1) told.2.is_state (IsLong-same seen.view.content (text ++ some.0 ∷ []) (seen.view.text (slice_index order row.0)) (seen.view.text told.0) other own))
 
     -- the rows are right, cover what the choice covers, and are closed where each step from a chosen state ends at one
-    pub Rows-made : (most : ℕ) → AreLabels view.content stands labels → AreRows unit_width view stands r × Covers view stands 2 r × (MayClose most view stands → ClosesOrFills most view stands (63168 / r.width) r)
-    Rows-made most named = (
+    pub Rows-made : (most : ℕ) → AreRows unit_width seen.view seen.stands r × Covers seen.view seen.stands 2 r × (MayClose most seen.view seen.stands → ClosesOrFills most seen.view seen.stands (most_rows seen) r)
+    Rows-made most = (
       are_rows,
-      λ v begins shallow. let row = choice.covered v begins shallow in (row.0, omega (arith, row.1, count_is), ap view.text (at_start row.0 row.1) ∙ row.2),
-      λ may. elim choice.ends [ inl stepped ↦ inl (are_closed most named stepped may) | inr many ↦ inr many ],
+      λ v begins shallow. let row = choice.covered v begins shallow in (row.0, omega (arith, row.1, count_is), ap seen.view.text (at_start row.0 row.1) ∙ row.2),
+      λ may. elim choice.ends [ inl stepped ↦ inl (are_closed most stepped may) | inr many ↦ inr many ],
     )

@@ -100,6 +100,33 @@ pub record AreLabels {V : Type 0} (K : Dictionary V) (stands : ℕ → ℕ → T
   pub below : (k : ℕ) → k < length labels → slice_index labels k < 638
   pub none_idle : (k : ℕ) → k < length labels → (unit : ℕ) × stands (slice_index labels k) unit
 
+-- an automaton, the labels that are listed for its rows, and how many places a row has
+pub record Listed (A : Type 0) : Type 0 where
+  pub automaton : A
+  pub labels : List ℕ
+  pub width : ℕ
+
+-- the automaton as searches see it, what each label stands for, and those same labels and places
+pub record Labelled (V : Type 0) : Type 1 where
+  pub view : AutomatonView V
+  pub stands : ℕ → ℕ → Type 0
+  pub labels : List ℕ
+  pub width : ℕ
+
+-- what is so seen of an automaton and its labels
+abbrev pub labelled : {V A L : Type 0} → (A → AutomatonView V) → (A → L → ℕ → Type 0) → (L → ℕ) → Listed A → Labelled V
+labelled sees stands number of = record { view = sees of.automaton; stands = stands_by number (stands of.automaton); labels = of.labels; width = of.width }
+
+-- the labels are those of the automaton, few enough for slots, and a row has a slot for each
+pub record AreLabelled {V : Type 0} (seen : Labelled V) : Type 0 where
+  pub labels : AreLabels seen.view.content seen.stands seen.labels
+  pub few : length seen.labels ≤ 638
+  pub width : seen.width ≡ row_places (length seen.labels)
+
+-- there is room for so many rows
+abbrev pub most_rows : {V : Type 0} → Labelled V → ℕ
+most_rows seen = 63168 / seen.width
+
 -- ---- the states near the root, which all have rows
 
 -- some label below 638 stands for the unit
@@ -137,10 +164,6 @@ module _ {V : Type 0} (view : AutomatonView V) (stands : ℕ → ℕ → Type 0)
   pub record StepLeads (s label t : ℕ) : Type 0 where
     pub is_state : view.reached t
     pub ends : (unit : ℕ) → stands label unit → Steps view s unit t
-
-  -- wherever the step by the label from the state r ends, that from the state s does
-  abbrev pub StepsAs : ℕ → ℕ → ℕ → Type 0
-  StepsAs s label r = (unit t : ℕ) → stands label unit → Steps view r unit t → Steps view s unit t
 
 module _ {V : Type 0} (unit_width : ℕ → ℕ) (view : AutomatonView V) (stands : ℕ → ℕ → Type 0) where
   -- the rows are right
@@ -187,75 +210,83 @@ pub record HaveRows (order table : List ℕ) (width : ℕ) : Type 0 where
   pub even : (half : ℕ) × (width ≡ half * 2)
 
 -- the states of the rows can be reached, and the row of each is known; each state is in the table, and none is too large for an entry
-pub record AreChosen {V : Type 0} (view : AutomatonView V) (order table : List ℕ) (most : ℕ) : Type 0 where
-  pub states : (k : ℕ) → k < length order → view.reached (slice_index order k)
+pub record AreChosen {V : Type 0} (seen : Labelled V) (order table : List ℕ) : Type 0 where
+  pub states : (k : ℕ) → k < length order → seen.view.reached (slice_index order k)
   pub homes : AreHomes order table
   pub own : AreOwn order table
-  pub few : length order ≤ most
-  pub room : most < 65535
-  pub inside : (s : ℕ) → view.reached s → s < length table
-  pub fits : (s : ℕ) → view.reached s → s + 65536 < 2 ^ 32
+  pub few : length order ≤ most_rows seen
+  pub room : most_rows seen < 65535
+  pub inside : (s : ℕ) → seen.view.reached s → s < length table
+  pub fits : (s : ℕ) → seen.view.reached s → s + 65536 < 2 ^ 32
 
 -- the rows stay, and more may follow
 pub record GoesOn (old new : List ℕ) : Type 0 where
   pub more : length old ≤ length new
   pub same : (k : ℕ) → k < length old → slice_index new k ≡ slice_index old k
 
-module _ {V : Type 0} (view : AutomatonView V) (stands : ℕ → ℕ → Type 0) where
+module _ {V : Type 0} (seen : Labelled V) where
+  -- the step from the state s by the listed label k ends at the state t
+  abbrev pub Leads : ℕ → ℕ → ℕ → Type 0
+  Leads s k t = StepLeads seen.view seen.stands s (slice_index seen.labels k) t
+
+  -- wherever that from the state r ends, that from the state s does
+  abbrev pub StepsAs : ℕ → ℕ → ℕ → Type 0
+  StepsAs s k r = (unit t : ℕ) → seen.stands (slice_index seen.labels k) unit → Steps seen.view r unit t → Steps seen.view s unit t
+
   -- the texts of the rows' states have at most n units, each with a slot
   abbrev pub AreShallow : ℕ → List ℕ → Type 0
-  AreShallow n order = (k : ℕ) → k < length order → IsShallow stands n (view.text (slice_index order k))
+  AreShallow n order = (k : ℕ) → k < length order → IsShallow seen.stands n (seen.view.text (slice_index order k))
 
   -- those of the first m have at most n, and the others one more
   pub record AreNear (n m : ℕ) (order : List ℕ) : Type 0 where
     pub inside : m ≤ length order
-    pub first : (k : ℕ) → k < m → IsShallow stands n (view.text (slice_index order k))
+    pub first : (k : ℕ) → k < m → IsShallow seen.stands n (seen.view.text (slice_index order k))
     pub all : AreShallow (n + 1) order
 
-  -- the step by the label from the state s ends at the text of a row's state
+  -- the step by the listed label k from the state s ends at the text of a row's state
   abbrev pub EndsInRow : ℕ → ℕ → List ℕ → Type 0
-  EndsInRow s label order = (k : ℕ) × (k < length order) × ((unit : ℕ) → stands label unit → Steps view s unit (slice_index order k))
+  EndsInRow s k order = (j : ℕ) × (j < length order) × ((unit : ℕ) → seen.stands (slice_index seen.labels k) unit → Steps seen.view s unit (slice_index order j))
 
-  -- so do those by each of these labels from the first n rows, and the first row is the root's
-  pub record AreStepped (labels : List ℕ) (n : ℕ) (order : List ℕ) : Type 0 where
-    pub root : (0 < length order) × (view.text (slice_index order 0) ≡ [])
-    pub ends : (k j : ℕ) → k < n → j < length labels → EndsInRow (slice_index order k) (slice_index labels j) order
+  -- so do those by each listed label from the first n rows, and the first row is the root's
+  pub record AreStepped (n : ℕ) (order : List ℕ) : Type 0 where
+    pub root : (0 < length order) × (seen.view.text (slice_index order 0) ≡ [])
+    pub ends : (k j : ℕ) → k < n → j < length seen.labels → EndsInRow (slice_index order k) j order
 
   -- each such text that begins a key is that of a row's state
   abbrev pub AreCovered : ℕ → List ℕ → Type 0
-  AreCovered n order = (w : List ℕ) → IsPrefix view.content w → IsShallow stands n w → (k : ℕ) × (k < length order) × (view.text (slice_index order k) ≡ w)
+  AreCovered n order = (w : List ℕ) → IsPrefix seen.view.content w → IsShallow seen.stands n w → (k : ℕ) × (k < length order) × (seen.view.text (slice_index order k) ≡ w)
 
   -- rows were added for the ends of steps from the first n rows
-  pub record AreAdded (old new homes : List ℕ) (most n : ℕ) : Type 0 where
-    pub chosen : AreChosen view new homes most
+  pub record AreAdded (old new homes : List ℕ) (n : ℕ) : Type 0 where
+    pub chosen : AreChosen seen new homes
     pub on : GoesOn old new
     pub near : (d m : ℕ) → n ≤ m → AreNear d m old → AreNear d m new
 
   -- and all these ends have rows, or there is no room
-  pub record IsRound (labels old new homes : List ℕ) (most n : ℕ) (all : Bool) : Type 0 where
-    pub added : AreAdded old new homes most n
-    pub stepped : all ≡ true → AreStepped labels n new
-    pub full : all ≡ false → (d m : ℕ) → n ≤ m → AreNear d m old → AreTooMany view stands (d + 1) most
+  pub record IsRound (old new homes : List ℕ) (n : ℕ) (all : Bool) : Type 0 where
+    pub added : AreAdded old new homes n
+    pub stepped : all ≡ true → AreStepped n new
+    pub full : all ≡ false → (d m : ℕ) → n ≤ m → AreNear d m old → AreTooMany seen.view seen.stands (d + 1) (most_rows seen)
 
   -- rows of the states near the root, and of all others or of as many as there is room for
-  pub record IsChoice (labels order homes : List ℕ) (most : ℕ) : Type 0 where
-    pub chosen : AreChosen view order homes most
+  pub record IsChoice (order homes : List ℕ) : Type 0 where
+    pub chosen : AreChosen seen order homes
     pub covered : AreCovered 2 order
-    pub ends : AreStepped labels (length order) order ⊎ ((n : ℕ) × AreTooMany view stands n most)
+    pub ends : AreStepped (length order) order ⊎ ((n : ℕ) × AreTooMany seen.view seen.stands n (most_rows seen))
 
-module _ {V : Type 0} (unit_width : ℕ → ℕ) (view : AutomatonView V) (stands : ℕ → ℕ → Type 0) (labels order : List ℕ) (width : ℕ) where
+module _ {V : Type 0} (unit_width : ℕ → ℕ) (seen : Labelled V) (order : List ℕ) where
   -- what the slot c of the row k holds for a label
   abbrev pub TellsStep : ℕ → ℕ → ℕ → ℕ → Type 0
-  TellsStep k c v label = (t : ℕ) × IsEntry order width t (HasFirst unit_width view t None) v × StepLeads view stands (slice_index order k) label t × (c ≡ 2 → view.text t ≡ [])
+  TellsStep k c v label = (t : ℕ) × IsEntry order seen.width t (HasFirst unit_width seen.view t None) v × StepLeads seen.view seen.stands (slice_index order k) label t × (c ≡ 2 → seen.view.text t ≡ [])
 
   -- the slot c of the row k
   abbrev pub IsSlot : ℕ → ℕ → ℕ → Type 0
   IsSlot k zero v = v ≡ slice_index order k % 65536
   IsSlot k (suc zero) v = v ≡ slice_index order k / 65536
-  IsSlot k (suc (suc c)) v = (label : ℕ) → label < 638 → IsSlotOf labels label (suc (suc c)) → TellsStep k (suc (suc c)) v label
+  IsSlot k (suc (suc c)) v = (label : ℕ) → label < 638 → IsSlotOf seen.labels label (suc (suc c)) → TellsStep k (suc (suc c)) v label
 
   -- k rows were written, and c slots of the next
   pub record AreWritten (k c : ℕ) (top : List ℕ) : Type 0 where
-    pub size : length top ≡ 2 * (k * width) + c
-    pub rows : (k' c' : ℕ) → k' < k → c' < 2 * width → IsSlot k' c' (slice_index top (2 * (k' * width) + c'))
-    pub row : (c' : ℕ) → c' < c → IsSlot k c' (slice_index top (2 * (k * width) + c'))
+    pub size : length top ≡ 2 * (k * seen.width) + c
+    pub rows : (k' c' : ℕ) → k' < k → c' < 2 * seen.width → IsSlot k' c' (slice_index top (2 * (k' * seen.width) + c'))
+    pub row : (c' : ℕ) → c' < c → IsSlot k c' (slice_index top (2 * (k * seen.width) + c'))

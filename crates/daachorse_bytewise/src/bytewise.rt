@@ -52,6 +52,7 @@ use daachorse_search::overlapping::{
 };
 use daachorse_search::overlapping_stepper::OverlappingStanding;
 use std::alloc::{Allocator, Global};
+use std::fmt;
 use std::hash::{Hash, Hasher};
 use std::marker::Model;
 
@@ -64,6 +65,8 @@ use std::marker::Model;
 /// Searches and steppers need [`MatchKind::Standard`], but [`Self::leftmost_find_iter`] needs
 /// another kind, and [`Self::find`], [`Self::is_match`] and [`Self::replace_all`] take any. None
 /// takes memory. A standard search takes at most two turns, looks at one state, for each byte.
+///
+/// Threads can share an automaton: it is `Send` and `Sync` if its values and its allocator are.
 #[derive(Drop)]
 pub struct DoubleArrayAhoCorasick<V: Copy, A: Allocator = Global> {
     states: States<V, A>,
@@ -73,6 +76,14 @@ pub struct DoubleArrayAhoCorasick<V: Copy, A: Allocator = Global> {
     filter: Option<Prefilter<A>>,
     // The depth of each element in bytes, or nothing.
     depths: Vec<u32, A>,
+}
+
+/// Does nothing; a call holds that threads can pass on and share a `T`.
+const fn is_send_and_sync<T: Send + Sync>() {}
+
+/// Holds that an automaton is `Send` and `Sync` if its values and its allocator are.
+const fn automaton_is_send_and_sync<V: Copy + Send + Sync, A: Allocator + Send + Sync>() {
+    is_send_and_sync::<DoubleArrayAhoCorasick<V, A>>();
 }
 
 impl<V: Copy, A: Allocator> Model for DoubleArrayAhoCorasick<V, A> {
@@ -232,6 +243,19 @@ impl<V: Copy + Hash, A: Allocator> Hash for DoubleArrayAhoCorasick<V, A> {
         self.folds.hash(state);
         self.filter.hash(state);
         self.depths.hash(state);
+    }
+}
+
+/// Shows the options, the numbers of states and elements, and whether there is a prefilter.
+impl<V: Copy, A: Allocator> fmt::Debug for DoubleArrayAhoCorasick<V, A> {
+    fn fmt<W: fmt::Write>(&self, f: &mut fmt::Formatter<W>) -> fmt::Result {
+        f.debug_struct("DoubleArrayAhoCorasick")
+            .field("match_kind", &self.match_kind())
+            .field("ascii_case_insensitive", &self.folds)
+            .field("num_states", &self.num_states())
+            .field("num_elements", &self.states.num_elements())
+            .field("prefilter", &self.filter.is_some())
+            .finish()
     }
 }
 

@@ -53,6 +53,7 @@ use daachorse_search::overlapping::{
     NoSuffixWalk, OverlappingWalk, find_overlapping_in, find_overlapping_no_suffix_in,
 };
 use std::alloc::{Allocator, Global};
+use std::fmt;
 use std::hash::{Hash, Hasher};
 use std::marker::Model;
 
@@ -67,6 +68,8 @@ use std::marker::Model;
 /// Searches and steppers need [`MatchKind::Standard`], but [`Self::leftmost_find_iter`] needs
 /// another kind, and [`Self::find`], [`Self::is_match`] and [`Self::replace_all`] take any. None
 /// takes memory. A standard search takes at most two turns, looks at one state, for each character.
+///
+/// Threads can share an automaton: it is `Send` and `Sync` if its values and its allocator are.
 #[derive(Drop)]
 pub struct CharwiseDoubleArrayAhoCorasick<V: Copy, A: Allocator = Global> {
     states: States<V, A>,
@@ -76,6 +79,14 @@ pub struct CharwiseDoubleArrayAhoCorasick<V: Copy, A: Allocator = Global> {
     filter: Option<Prefilter<A>>,
     // The depth of each element in characters, or nothing.
     depths: Vec<u32, A>,
+}
+
+/// Does nothing; a call holds that threads can pass on and share a `T`.
+const fn is_send_and_sync<T: Send + Sync>() {}
+
+/// Holds that an automaton is `Send` and `Sync` if its values and its allocator are.
+const fn automaton_is_send_and_sync<V: Copy + Send + Sync, A: Allocator + Send + Sync>() {
+    is_send_and_sync::<CharwiseDoubleArrayAhoCorasick<V, A>>();
 }
 
 impl<V: Copy, A: Allocator> Model for CharwiseDoubleArrayAhoCorasick<V, A> {
@@ -238,6 +249,19 @@ impl<V: Copy + Hash, A: Allocator> Hash for CharwiseDoubleArrayAhoCorasick<V, A>
         self.folds.hash(state);
         self.filter.hash(state);
         self.depths.hash(state);
+    }
+}
+
+/// Shows the options, the numbers of states and elements, and whether there is a prefilter.
+impl<V: Copy, A: Allocator> fmt::Debug for CharwiseDoubleArrayAhoCorasick<V, A> {
+    fn fmt<W: fmt::Write>(&self, f: &mut fmt::Formatter<W>) -> fmt::Result {
+        f.debug_struct("CharwiseDoubleArrayAhoCorasick")
+            .field("match_kind", &self.match_kind())
+            .field("ascii_case_insensitive", &self.folds)
+            .field("num_states", &self.num_states())
+            .field("num_elements", &self.num_elements())
+            .field("prefilter", &self.filter.is_some())
+            .finish()
     }
 }
 

@@ -5,6 +5,7 @@ use crate::rows::{BUILT, FOLDING, Patvals, UNFILTERED, Way};
 use crate::{expect, expect_over, hash_of};
 use daachorse::{MatchKind, Result};
 use std::alloc::Global;
+use std::fmt::Debug;
 use std::process::Abort;
 use std::test::Fail;
 
@@ -144,6 +145,55 @@ fn patterns_are_listed_in_byte_order(rt: HostRuntime) -> Result<(), Fail> {
     for row in ROWS {
         expect(&rt, holds::<Bytewise>(rt.alloc(), row, row.5)?, row.0);
         expect(&rt, holds::<Charwise>(rt.alloc(), row, row.6)?, row.0);
+    }
+    Ok(())
+}
+
+/// What a row shows, a way, a kind, patterns, and the summaries over bytes and over characters.
+type Summary = (
+    &'static str,
+    Way,
+    MatchKind,
+    Patvals,
+    &'static str,
+    &'static str,
+);
+
+const SUMMARIES: [Summary; 2] = [
+    (
+        "a summary with a prefilter",
+        BUILT,
+        MatchKind::Standard,
+        &[("ab", 0)],
+        "DoubleArrayAhoCorasick { match_kind: Standard, ascii_case_insensitive: false, num_states: 3, num_elements: 256, prefilter: true }",
+        "CharwiseDoubleArrayAhoCorasick { match_kind: Standard, ascii_case_insensitive: false, num_states: 3, num_elements: 4, prefilter: true }",
+    ),
+    (
+        "a summary without one",
+        FOLDING,
+        MatchKind::LeftmostLongest,
+        &[("A", 0)],
+        "DoubleArrayAhoCorasick { match_kind: LeftmostLongest, ascii_case_insensitive: true, num_states: 2, num_elements: 256, prefilter: false }",
+        "CharwiseDoubleArrayAhoCorasick { match_kind: LeftmostLongest, ascii_case_insensitive: true, num_states: 2, num_elements: 4, prefilter: false }",
+    ),
+];
+
+/// Whether the `Debug` text of an automaton of a row is this one.
+fn is_shown<S: Automaton<Alloc = Global> + Debug>(
+    alloc: Global,
+    row: &Summary,
+    summary: &str,
+) -> Result<bool> {
+    let (_, way, kind, patvals, _, _) = *row;
+    let automaton = S::built(alloc, way, kind, patvals)?;
+    Ok(format!(in alloc; "{automaton:?}")?.as_str() == summary)
+}
+
+#[test]
+fn automata_are_summed_up(rt: HostRuntime) -> Result<(), Fail> {
+    for row in &SUMMARIES {
+        expect(&rt, is_shown::<Bytewise>(rt.alloc(), row, row.4)?, row.0);
+        expect(&rt, is_shown::<Charwise>(rt.alloc(), row, row.5)?, row.0);
     }
     Ok(())
 }

@@ -59,8 +59,9 @@ impl<V: Serializable + Copy, A: Allocator + Copy> CharwiseDoubleArrayAhoCorasick
 
     /// Reads an automaton that [`Self::serialize`] wrote, and returns it with the bytes after it.
     ///
-    /// It checks nothing, and takes memory for the automaton alone. Use [`Self::deserialize`] for
-    /// bytes that may hold anything else. Fails only if an allocation fails.
+    /// It checks nothing, and takes memory for the automaton alone. It is for bytes that a contract
+    /// says were written. No contract says what a file holds: use [`Self::deserialize`] for that.
+    /// Fails only if an allocation fails.
     pub fn deserialize_unchecked(alloc: A, source: &[u8]) -> Result<(Self, &[u8])>
         requires { BeginsWithAutomaton V.is_value V.form source.now }
         ensures ok { IfOk result (λ r. (a : Automaton V) (rest : List ℕ) → IsAutomaton V.is_value a → source.now ≡ written_form V.form a ++ rest

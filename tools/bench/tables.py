@@ -11,6 +11,8 @@ import statistics
 import sys
 
 SETS = ["English", "Japanese", "50 words", "1,000 words", "20,000 words", "50 rules", "3,000 rules"]
+# The sets that are only searched after `accelerate` come last.
+ALL_SETS = [*SETS, "1,000 English", "5,000 English", "300 rules"]
 SEARCHES = {
     "find": "`find_iter`",
     "overlapping": "`find_overlapping_iter`",
@@ -104,7 +106,7 @@ class Results:
                 found.append({})
                 continue
             name, ours, theirs, nanoseconds = line.split("\t")
-            where = f"tables.py: {SETS[len(found) - 1]}: {name}"
+            where = f"tables.py: {ALL_SETS[len(found) - 1]}: {name}"
             if ours != theirs:
                 print(f"{where} finds {theirs} matches, not {ours}", file=sys.stderr)
             elif float(nanoseconds) <= 0:
@@ -194,7 +196,7 @@ def with_rows(results):
         return number_cell(results.milliseconds(unit, number, mode))
 
     def cells(cell, mode):
-        for number in range(len(SETS)):
+        for number in range(len(ALL_SETS)):
             yield ", ".join(filter(None, (cell(unit, number, mode) for unit in results.times)))
 
     for mode in WITH_ROWS:
@@ -224,7 +226,7 @@ def beside(theirs, ours):
 
 
 def beside_peers(results):
-    for number, name in enumerate(SETS):
+    for number, name in enumerate(ALL_SETS):
         plain, fast, *others, longest, grep = bars(results, number).values()
         cells = [number_cell(plain), number_cell(fast), *(beside(it, fast) for it in others)]
         yield [name, *cells, number_cell(longest), beside(grep, longest)]
@@ -250,7 +252,7 @@ def tables(results):
         "ran": ["![Nanoseconds a byte of each library](speed.svg)", "", f"Run: {'; '.join(results.ran)}."] if results.ran else [],
         "bytes": table(["bytes", "ns", *counted], of_unit(results, "bytes")),
         "chars": table(["characters", "ns", *counted], of_unit(results, "chars")),
-        "rows": table(["with rows", *SETS], with_rows(results)),
+        "rows": table(["with rows", *ALL_SETS], with_rows(results)),
         "peers": table(["ns a byte", *bars(results, 0)], beside_peers(results)),
         "memory": memory(results),
     }
@@ -282,7 +284,7 @@ def svg_text(x, y, text, more=""):
 
 def picture(results):
     """Bars of nanoseconds a byte, each set by itself, on a scale of powers of ten."""
-    groups = [bars(results, number) for number in range(len(SETS))]
+    groups = [bars(results, number) for number in range(len(ALL_SETS))]
     known = [value for group in groups for value in group.values() if value] or [1, 100]
     least, most = math.floor(math.log10(min(known))), math.ceil(math.log10(max(known) * 1.01))
     height = 40 + sum(GROUP + BAR * len(group) for group in groups)
@@ -299,7 +301,7 @@ def picture(results):
         yield f'<path d="M{x:.1f} 34V{height}" stroke="#dddddd"/>'
         yield svg_text(x, 30, f"{10.0**power:g} ns", ' text-anchor="middle"')
     y = 40
-    for name, group in zip(SETS, groups):
+    for name, group in zip(ALL_SETS, groups):
         yield svg_text(8, y + 9, name, BOLD)
         for colour, (label, value) in zip(COLOURS, group.items()):
             end = place(value) if value else LEFT

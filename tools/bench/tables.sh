@@ -1,7 +1,7 @@
 #!/bin/sh
 # tables.sh DAACHORSE WORK WORDS TEXT OTHER_WORDS OTHER_TEXT
 #
-# Measures the seven sets of docs/SPEED.md, and writes its tables and docs/speed.svg. DAACHORSE is
+# Measures the sets of docs/SPEED.md, and writes its tables and docs/speed.svg. DAACHORSE is
 # the folder of the Rust crate, WORK a folder to work in, WORDS and TEXT a list of English words and
 # a text to search, and the last two the same in Japanese. sets.py makes the other sets.
 #
@@ -22,6 +22,7 @@ counted="find overlapping no_suffix longest find_source overlapping_source no_su
 find_stepper overlapping_stepper list depths"
 timed="$counted write read_unchecked read accelerate rows_find rows_overlapping rows_longest
 rows_find_source rows_find_stepper"
+more="find overlapping longest accelerate rows_find rows_overlapping rows_longest"
 
 # for_sets COMMAND..: runs the command with each set's words and text, in the order of tables.py.
 for_sets() {
@@ -29,6 +30,12 @@ for_sets() {
     "$@" "$other_words" "$other_text"
     for size in 50 1000 20000; do "$@" "$sets/words.$size" "$sets/text.txt"; done
     for size in 50 3000; do "$@" "$sets/rules.$size" "$sets/log.txt"; done
+}
+
+# for_more COMMAND..: the same with the sets that are only searched after `accelerate`.
+for_more() {
+    for size in 1000 5000; do "$@" "$sets/english.$size" "$text"; done
+    "$@" "$sets/rules.300" "$sets/log.txt"
 }
 
 # say_what_ran: prints the state, the programs and the machine.
@@ -86,12 +93,16 @@ count() {
 rm -rf "$results"
 mkdir -p "$results"
 python3 "$here/sets.py" "$sets" 7
+for size in 1000 5000; do
+    awk -v size="$size" 'NR % (20000 / size) == 1' "$words" > "$sets/english.$size"
+done
 build_peers
 PARTS=build "$here/run.sh" "$crate" "$work"
 say_what_ran > "$results/ran"
-for_sets wc -c > "$results/sizes"
+{ for_sets wc -c && for_more wc -c; } > "$results/sizes"
 for_sets env PARTS=times MODES="$timed" "$here/run.sh" "$crate" "$work" > "$results/times"
-for_sets peers > "$results/peers"
+for_more env PARTS=times MODES="$more" BUILDS= "$here/run.sh" "$crate" "$work" >> "$results/times"
+{ for_sets peers && for_more peers; } > "$results/peers"
 for unit in bytes chars; do
     count "$unit" English "$words" "$text" &
     count "$unit" Japanese "$other_words" "$other_text" &

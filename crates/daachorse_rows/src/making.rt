@@ -15,8 +15,7 @@ use std::alloc::{AllocError, Allocator};
 use std::marker::{Model, PhantomData};
 use std::num::NonZeroU32;
 
-/// The most places in rows, of two slots each. With the slots of the labels and a table of what
-/// patterns begin with, rows take 256 KiB.
+/// The most places in rows, of two slots each. With the slots of the labels, rows take 248 KiB.
 const PLACES: u32 = 63_168;
 
 /// In place of the row of a state that has none.

@@ -23,10 +23,8 @@ pub trait Appending<P: Piece, O> {
         ensures beginning { OnErr result (AppendsBeginning (taken out.old) (taken out.new) (P.bytes piece)) };
 }
 
-/// Appends bytes to a vector.
-pub struct ToVec;
-
-impl<'a, A: Allocator> Appending<&'a [u8], Vec<u8, A>> for ToVec {
+/// A vector takes bytes.
+impl<'a, A: Allocator> Appending<&'a [u8], Vec<u8, A>> for Vec<u8, A> {
     ghost taken = { λ v. Some v.items };
 
     type Error = AllocError;
@@ -37,10 +35,8 @@ impl<'a, A: Allocator> Appending<&'a [u8], Vec<u8, A>> for ToVec {
     }
 }
 
-/// Appends text to a string.
-pub struct ToText;
-
-impl<'a, A: Allocator> Appending<&'a str, String<A>> for ToText {
+/// A string takes text.
+impl<'a, A: Allocator> Appending<&'a str, String<A>> for String<A> {
     ghost taken = { λ s. Some (string_bytes s) };
 
     type Error = AllocError;

@@ -4,3 +4,4 @@
 pub mod appending;
 pub mod piece;
 pub mod replacing;
+pub mod writing;

@@ -175,6 +175,12 @@ pub trait Automaton: Searched + PartialEq + Hash + Drop + Sized {
 
     /// Writes what [`Self::replaced`] returns.
     fn replaces_into<W: Write>(&self, text: &str, out: &mut W) -> io::Result<()>;
+
+    /// The text in bytes, with each match in brackets.
+    fn bracketed(&self, alloc: Self::Alloc, text: &str) -> Result<Vec<u8, Self::Alloc>>;
+
+    /// Writes what [`Self::bracketed`] returns, up to a match of value 9, where it fails.
+    fn brackets_into<W: Write>(&self, text: &str, out: &mut W) -> io::Result<()>;
 }
 
 /// The outcome of a listing that returned an error: the error if nothing follows it, else false.

@@ -4,7 +4,7 @@ use crate::automata::{
     Automaton, Bytewise, Listed, PATVALS, Plainly, Searched, SearchedInBytes, finds, refused,
 };
 use crate::finding::{Found, are, are_found, are_found_overlapping, gives, gives_leftmost};
-use crate::replaced::instead;
+use crate::replaced::{bracket, instead, write_bracketed};
 use crate::rows::{BY_CORPUS, Search, Way};
 use daachorse::bytewise::Accelerated;
 use daachorse::{DoubleArrayAhoCorasick, DoubleArrayAhoCorasickBuilder, Match, MatchKind, Result};
@@ -347,5 +347,19 @@ impl<A: Allocator + Copy> Automaton for Bytewise<A> {
 
     fn replaces_into<W: Write>(&self, text: &str, out: &mut W) -> io::Result<()> {
         self.replace_all_into(text.as_bytes(), instead, out)
+    }
+
+    fn bracketed(&self, alloc: A, text: &str) -> Result<Vec<u8, A>> {
+        let mut out = Vec::new(alloc);
+        self.replace_all_with(
+            text.as_bytes(),
+            &mut out,
+            |_found, part, out| bracket(part, out),
+        )?;
+        Ok(out)
+    }
+
+    fn brackets_into<W: Write>(&self, text: &str, out: &mut W) -> io::Result<()> {
+        self.replace_all_into_with(text.as_bytes(), out, write_bracketed)
     }
 }

@@ -4,7 +4,7 @@ use crate::automata::{
     Automaton, Charwise, Listed, PATTERNS, PATVALS, Plainly, Searched, finds, refused,
 };
 use crate::finding::{Found, are, are_found, are_found_overlapping, gives, gives_leftmost};
-use crate::replaced::instead_of_text;
+use crate::replaced::{bracket_text, instead_of_text, write_bracketed};
 use crate::rows::{BY_CORPUS, Search, Way};
 use daachorse::charwise::Accelerated;
 use daachorse::{
@@ -286,5 +286,17 @@ impl<A: Allocator + Copy> Automaton for Charwise<A> {
 
     fn replaces_into<W: Write>(&self, text: &str, out: &mut W) -> io::Result<()> {
         self.replace_all_into(text, instead_of_text, out)
+    }
+
+    fn bracketed(&self, alloc: A, text: &str) -> Result<Vec<u8, A>> {
+        let mut out = String::new(alloc);
+        self.replace_all_with(text, &mut out, |_found, part, out| bracket_text(part, out))?;
+        Ok(out.into_bytes())
+    }
+
+    fn brackets_into<W: Write>(&self, text: &str, out: &mut W) -> io::Result<()> {
+        self.replace_all_into_with(text, out, |found, part, out| {
+            write_bracketed(found, part.as_bytes(), out)
+        })
     }
 }

@@ -1,11 +1,11 @@
-//! What `replace_all` returns and `replace_all_into` writes, over bytes and over characters.
+//! What the calls that replace matches return and write, over bytes and over characters.
 
 use crate::automata::{Automaton, Bytewise, Charwise};
 use crate::expect;
 use crate::rows::{BUILT, Patvals};
 use daachorse::MatchKind::{self, LeftmostFirst, LeftmostLongest, Standard};
 use daachorse::{Match, Result};
-use std::alloc::Global;
+use std::alloc::{AllocError, Allocator, Global};
 use std::io::{self, ErrorKind, Write};
 use std::test::Fail;
 
@@ -61,6 +61,32 @@ pub fn instead_of_text(found: Match<u32>, part: &str) -> &str {
         1 => "",
         _ => part,
     }
+}
+
+/// Appends the part in brackets.
+pub fn bracket<A: Allocator>(part: &[u8], out: &mut Vec<u8, A>) -> Result<(), AllocError> {
+    out.push(b'[')?;
+    out.extend_from_slice(part)?;
+    out.push(b']')?;
+    Ok(())
+}
+
+/// Appends the part of a text in brackets.
+pub fn bracket_text<A: Allocator>(part: &str, out: &mut String<A>) -> Result<(), AllocError> {
+    out.push('[')?;
+    out.push_str(part)?;
+    out.push(']')?;
+    Ok(())
+}
+
+/// Writes the part of a match in brackets, and fails at a match of value 9.
+pub fn write_bracketed<W: Write>(found: Match<u32>, part: &[u8], out: &mut W) -> io::Result<()> {
+    if found.value() == 9 {
+        return Err(io::Error::from(ErrorKind::Other));
+    }
+    out.write_all(b"[")?;
+    out.write_all(part)?;
+    out.write_all(b"]")
 }
 
 /// A writer that takes one byte a call, and fails if there is no room.
@@ -123,6 +149,78 @@ fn matches_are_replaced(rt: HostRuntime) -> Result<(), Fail> {
     for row in ROWS {
         expect(&rt, is_replaced::<Bytewise>(rt.alloc(), row)?, row.0);
         expect(&rt, is_replaced::<Charwise>(rt.alloc(), row)?, row.0);
+    }
+    Ok(())
+}
+
+/// What a row shows, the kind, the patterns, the haystack, what is written with each match in
+/// brackets up to one of value 9, and whether that is all.
+type BracketRow = (
+    &'static str,
+    MatchKind,
+    Patvals,
+    &'static str,
+    &'static str,
+    bool,
+);
+
+const BRACKET_ROWS: &[BracketRow] = &[
+    ("each match", Standard, NESTED, "xabcdx", "x[ab][cd]x", true),
+    (
+        "the longest",
+        LeftmostLongest,
+        NESTED,
+        "xabcdab",
+        "x[abcd][ab]",
+        true,
+    ),
+    ("no match", LeftmostFirst, NESTED, "acbd", "acbd", true),
+    (
+        "an empty match",
+        Standard,
+        &[("", 0)],
+        "ab",
+        "[]a[]b[]",
+        true,
+    ),
+    (
+        "characters",
+        LeftmostLongest,
+        &[("界", 0), ("世界", 1)],
+        "に世界界",
+        "に[世界][界]",
+        true,
+    ),
+    (
+        "an error",
+        Standard,
+        &[("ab", 0), ("cd", 9)],
+        "xabycdz",
+        "x[ab]y",
+        false,
+    ),
+];
+
+/// Whether an automaton returns and writes what a row says.
+fn is_bracketed<S: Automaton<Alloc = Global>>(alloc: Global, row: &BracketRow) -> Result<bool> {
+    let (_, kind, patvals, haystack, expected, is_all) = *row;
+    let automaton = S::built(alloc, BUILT, kind, patvals)?;
+    let mut writer = Narrow {
+        room: 100,
+        taken: Vec::new(alloc),
+    };
+    let outcome = automaton.brackets_into(haystack, &mut writer);
+    if outcome.is_ok() != is_all || writer.taken.as_slice() != expected.as_bytes() {
+        return Ok(false);
+    }
+    Ok(!is_all || automaton.bracketed(alloc, haystack)?.as_slice() == expected.as_bytes())
+}
+
+#[test]
+fn matches_are_put_in_brackets(rt: HostRuntime) -> Result<(), Fail> {
+    for row in BRACKET_ROWS {
+        expect(&rt, is_bracketed::<Bytewise>(rt.alloc(), row)?, row.0);
+        expect(&rt, is_bracketed::<Charwise>(rt.alloc(), row)?, row.0);
     }
     Ok(())
 }

@@ -19,10 +19,11 @@ enum Request {
     CacheDepths,
     Accelerate,
     Replace,
+    ReplaceWith,
 }
 
 /// The calls, each with its name and a kind.
-const REQUESTS: [(&str, MatchKind, Request); 18] = [
+const REQUESTS: [(&str, MatchKind, Request); 19] = [
     ("new", MatchKind::Standard, Request::Plainly(Plainly::New)),
     (
         "with_values",
@@ -68,6 +69,11 @@ const REQUESTS: [(&str, MatchKind, Request); 18] = [
     ("cache_depths", MatchKind::Standard, Request::CacheDepths),
     ("accelerate", MatchKind::Standard, Request::Accelerate),
     ("replace_all", MatchKind::Standard, Request::Replace),
+    (
+        "replace_all_with",
+        MatchKind::Standard,
+        Request::ReplaceWith,
+    ),
     (
         "a read for the longest",
         MatchKind::LeftmostLongest,
@@ -138,6 +144,10 @@ fn gives_of_built<S: Automaton>(
         Request::CacheDepths => caches(&mut automaton),
         Request::Accelerate => {
             automaton.finds_with_rows(alloc, Search::Standard, "xabcd", &[(1, 3, 2)])
+        }
+        Request::ReplaceWith => {
+            let bracketed = automaton.bracketed(alloc, "xabcbcd")?;
+            Ok(bracketed.as_slice() == b"x[ab]c[bcd]".as_slice())
         }
         _ => {
             let replaced = automaton.replaced(alloc, "xabcbcd")?;

@@ -7,13 +7,15 @@ ghost use Rattle.daachorse_model.specs.Folding.{as_read};
 ghost use Rattle.daachorse_model.specs.Units.{byte_width};
 ghost use Rattle.daachorse_replacing.specs.ByKind.{non_overlapping};
 ghost use Rattle.daachorse_replacing.specs.Replaced.{AppendsBeginning, OfReplaced, OfReplacedSoFar};
+ghost use Rattle.daachorse_replacing.specs.ReplacedWith.{IsReplaced, IsReplacedSoFar};
 ghost use Rattle.daachorse_bytewise.specs.Automata.{dictionary_of, kind_of};
 
 use super::DoubleArrayAhoCorasick;
 use daachorse_core::errors::Result;
 use daachorse_core::{Match, MatchKind};
-use daachorse_replacing::appending::{Appending, ToVec, ToWriter};
+use daachorse_replacing::appending::{Appending, ToWriter};
 use daachorse_replacing::replacing::replace;
+use daachorse_replacing::writing::replace_with;
 use std::alloc::Allocator;
 use std::io::{self, Write};
 
@@ -36,7 +38,7 @@ impl<V: Copy, A: Allocator> DoubleArrayAhoCorasick<V, A> {
         ensures err { IfErr result IsOutOfMemory }
     {
         let mut out = Vec::new(alloc);
-        self.replace_by_kind::<F, Vec<u8, B>, ToVec>(haystack, &replacement, &mut out)?;
+        self.replace_by_kind::<F, Vec<u8, B>, Vec<u8, B>>(haystack, &replacement, &mut out)?;
         Ok(out)
     }
 
@@ -59,6 +61,38 @@ impl<V: Copy, A: Allocator> DoubleArrayAhoCorasick<V, A> {
         self.replace_by_kind::<F, W, ToWriter>(haystack, &replacement, out)
     }
 
+    /// Appends the haystack to `out`, and in place of each match what `write` appends for it.
+    ///
+    /// `write` gets the match, the part of the haystack that matched, and the output. The matches
+    /// are those of [`Self::replace_all`]. Stops at the first error, of `out` or of `write`, after
+    /// the output took what comes before it. Of `ab` and `b`, each replaced by its length, `abxb`
+    /// becomes `2x1`.
+    pub fn replace_all_with<
+        'h,
+        O: Appending<&'h [u8], O>,
+        F: FnMut(Match<V>, &'h [u8], &mut O) -> Result<(), O::Error> + Drop,
+    >(&self, haystack: &'h [u8], out: &mut O, write: F) -> Result<(), O::Error>
+        requires callable { F.IsAlwaysCallable write }
+        ensures whole { OnOk result (IsReplaced (λ s. s.now) O.taken haystack.now F.step (non_overlapping (kind_of self.now) byte_width (dictionary_of self.now) (as_read self.now.folds haystack.now)) write out.old out.new) }
+        ensures beginning { OnErr result (IsReplacedSoFar (λ s. s.now) O.taken haystack.now F.step (non_overlapping (kind_of self.now) byte_width (dictionary_of self.now) (as_read self.now.folds haystack.now)) write out.old out.new) }
+    {
+        self.replace_with_by_kind::<O, O, F>(haystack, out, write)
+    }
+
+    /// Does what [`Self::replace_all_with`] does with a writer, in as many writes as it needs. The
+    /// writer is not flushed.
+    pub fn replace_all_into_with<
+        'h,
+        W: Write,
+        F: FnMut(Match<V>, &'h [u8], &mut W) -> io::Result<()> + Drop,
+    >(&self, haystack: &'h [u8], out: &mut W, write: F) -> io::Result<()>
+        requires callable { F.IsAlwaysCallable write }
+        ensures whole { OnOk result (IsReplaced (λ s. s.now) W.contents haystack.now F.step (non_overlapping (kind_of self.now) byte_width (dictionary_of self.now) (as_read self.now.folds haystack.now)) write out.old out.new) }
+        ensures beginning { OnErr result (IsReplacedSoFar (λ s. s.now) W.contents haystack.now F.step (non_overlapping (kind_of self.now) byte_width (dictionary_of self.now) (as_read self.now.folds haystack.now)) write out.old out.new) }
+    {
+        self.replace_with_by_kind::<W, ToWriter, F>(haystack, out, write)
+    }
+
     fn replace_by_kind<'h, F: Fn(Match<V>, &'h [u8]) -> &'h [u8], O, T: Appending<&'h [u8], O>>(
         &self,
         haystack: &'h [u8],
@@ -79,6 +113,28 @@ impl<V: Copy, A: Allocator> DoubleArrayAhoCorasick<V, A> {
             MatchKind::LeftmostLongest | MatchKind::LeftmostFirst => {
                 let matches = self.leftmost_find_iter(haystack);
                 replace::<_, _, _, F, O, T>(haystack, matches, replacement, out)
+            }
+        }
+    }
+
+    fn replace_with_by_kind<
+        'h,
+        O,
+        T: Appending<&'h [u8], O>,
+        F: FnMut(Match<V>, &'h [u8], &mut O) -> Result<(), T::Error> + Drop,
+    >(&self, haystack: &'h [u8], out: &mut O, write: F) -> Result<(), T::Error>
+        requires callable { F.IsAlwaysCallable write }
+        ensures whole { OnOk result (IsReplaced (λ s. s.now) T.taken haystack.now F.step (non_overlapping (kind_of self.now) byte_width (dictionary_of self.now) (as_read self.now.folds haystack.now)) write out.old out.new) }
+        ensures beginning { OnErr result (IsReplacedSoFar (λ s. s.now) T.taken haystack.now F.step (non_overlapping (kind_of self.now) byte_width (dictionary_of self.now) (as_read self.now.folds haystack.now)) write out.old out.new) }
+    {
+        match self.match_kind() {
+            MatchKind::Standard => {
+                let matches = self.find_iter(haystack);
+                replace_with::<_, _, _, O, T, F>(haystack, matches, out, write)
+            }
+            MatchKind::LeftmostLongest | MatchKind::LeftmostFirst => {
+                let matches = self.leftmost_find_iter(haystack);
+                replace_with::<_, _, _, O, T, F>(haystack, matches, out, write)
             }
         }
     }

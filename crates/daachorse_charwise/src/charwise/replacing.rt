@@ -9,13 +9,15 @@ ghost use Rattle.daachorse_model.specs.Folding.{as_read};
 ghost use Rattle.daachorse_model.specs.Units.{char_width};
 ghost use Rattle.daachorse_replacing.specs.ByKind.{non_overlapping};
 ghost use Rattle.daachorse_replacing.specs.Replaced.{AppendsBeginning, OfReplaced, OfReplacedSoFar};
+ghost use Rattle.daachorse_replacing.specs.ReplacedWith.{IsReplaced, IsReplacedSoFar};
 ghost use Rattle.daachorse_charwise.specs.Automata.{dictionary_of, kind_of};
 
 use super::CharwiseDoubleArrayAhoCorasick;
 use daachorse_core::errors::Result;
 use daachorse_core::{Match, MatchKind};
-use daachorse_replacing::appending::{Appending, ToText, ToWriter};
+use daachorse_replacing::appending::{Appending, ToWriter};
 use daachorse_replacing::replacing::replace;
+use daachorse_replacing::writing::replace_with;
 use std::alloc::Allocator;
 use std::io::{self, Write};
 
@@ -38,7 +40,7 @@ impl<V: Copy, A: Allocator> CharwiseDoubleArrayAhoCorasick<V, A> {
         ensures err { IfErr result IsOutOfMemory }
     {
         let mut out = String::new(alloc);
-        self.replace_by_kind::<F, String<B>, ToText>(haystack, &replacement, &mut out)?;
+        self.replace_by_kind::<F, String<B>, String<B>>(haystack, &replacement, &mut out)?;
         Ok(out)
     }
 
@@ -61,6 +63,38 @@ impl<V: Copy, A: Allocator> CharwiseDoubleArrayAhoCorasick<V, A> {
         self.replace_by_kind::<F, W, ToWriter>(haystack, &replacement, out)
     }
 
+    /// Appends the haystack to `out`, and in place of each match what `write` appends for it.
+    ///
+    /// `write` gets the match, the part of the haystack that matched, and the output. The matches
+    /// are those of [`Self::replace_all`]. Stops at the first error, of `out` or of `write`, after
+    /// the output took what comes before it. Of `ab` and `b`, each replaced by its length, `abxb`
+    /// becomes `2x1`.
+    pub fn replace_all_with<
+        'h,
+        O: Appending<&'h str, O>,
+        F: FnMut(Match<V>, &'h str, &mut O) -> Result<(), O::Error> + Drop,
+    >(&self, haystack: &'h str, out: &mut O, write: F) -> Result<(), O::Error>
+        requires callable { F.IsAlwaysCallable write }
+        ensures whole { OnOk result (IsReplaced (λ s. s.now) O.taken haystack.now F.step (non_overlapping (kind_of self.now) char_width (dictionary_of self.now) (as_read self.now.folds (chars haystack.now))) write out.old out.new) }
+        ensures beginning { OnErr result (IsReplacedSoFar (λ s. s.now) O.taken haystack.now F.step (non_overlapping (kind_of self.now) char_width (dictionary_of self.now) (as_read self.now.folds (chars haystack.now))) write out.old out.new) }
+    {
+        self.replace_with_by_kind::<O, O, F>(haystack, out, write)
+    }
+
+    /// Does what [`Self::replace_all_with`] does with a writer, in as many writes as it needs. The
+    /// writer is not flushed.
+    pub fn replace_all_into_with<
+        'h,
+        W: Write,
+        F: FnMut(Match<V>, &'h str, &mut W) -> io::Result<()> + Drop,
+    >(&self, haystack: &'h str, out: &mut W, write: F) -> io::Result<()>
+        requires callable { F.IsAlwaysCallable write }
+        ensures whole { OnOk result (IsReplaced (λ s. s.now) W.contents haystack.now F.step (non_overlapping (kind_of self.now) char_width (dictionary_of self.now) (as_read self.now.folds (chars haystack.now))) write out.old out.new) }
+        ensures beginning { OnErr result (IsReplacedSoFar (λ s. s.now) W.contents haystack.now F.step (non_overlapping (kind_of self.now) char_width (dictionary_of self.now) (as_read self.now.folds (chars haystack.now))) write out.old out.new) }
+    {
+        self.replace_with_by_kind::<W, ToWriter, F>(haystack, out, write)
+    }
+
     fn replace_by_kind<'h, F: Fn(Match<V>, &'h str) -> &'h str, O, T: Appending<&'h str, O>>(
         &self,
         haystack: &'h str,
@@ -81,6 +115,28 @@ impl<V: Copy, A: Allocator> CharwiseDoubleArrayAhoCorasick<V, A> {
             MatchKind::LeftmostLongest | MatchKind::LeftmostFirst => {
                 let matches = self.leftmost_find_iter(haystack);
                 replace::<_, _, _, F, O, T>(haystack, matches, replacement, out)
+            }
+        }
+    }
+
+    fn replace_with_by_kind<
+        'h,
+        O,
+        T: Appending<&'h str, O>,
+        F: FnMut(Match<V>, &'h str, &mut O) -> Result<(), T::Error> + Drop,
+    >(&self, haystack: &'h str, out: &mut O, write: F) -> Result<(), T::Error>
+        requires callable { F.IsAlwaysCallable write }
+        ensures whole { OnOk result (IsReplaced (λ s. s.now) T.taken haystack.now F.step (non_overlapping (kind_of self.now) char_width (dictionary_of self.now) (as_read self.now.folds (chars haystack.now))) write out.old out.new) }
+        ensures beginning { OnErr result (IsReplacedSoFar (λ s. s.now) T.taken haystack.now F.step (non_overlapping (kind_of self.now) char_width (dictionary_of self.now) (as_read self.now.folds (chars haystack.now))) write out.old out.new) }
+    {
+        match self.match_kind() {
+            MatchKind::Standard => {
+                let matches = self.find_iter(haystack);
+                replace_with::<_, _, _, O, T, F>(haystack, matches, out, write)
+            }
+            MatchKind::LeftmostLongest | MatchKind::LeftmostFirst => {
+                let matches = self.leftmost_find_iter(haystack);
+                replace_with::<_, _, _, O, T, F>(haystack, matches, out, write)
             }
         }
     }

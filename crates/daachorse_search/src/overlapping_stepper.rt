@@ -120,6 +120,14 @@ where
         }
     }
 
+    /// The number of bytes consumed.
+    #[inline(always)]
+    pub fn place(&self) -> usize
+        ensures { result ≡ size A.Unit.width self.now.read }
+    {
+        self.place
+    }
+
     /// Consumes one unit, with at most two looks at states, amortized over all units.
     #[inline(always)]
     pub fn consume(&mut self, unit: A::Unit)

@@ -7,4 +7,5 @@ pub mod rating;
 pub mod redact;
 pub mod redactor;
 pub mod rules;
+pub mod stream;
 pub mod words;

@@ -1,0 +1,62 @@
+//! Searches of what is read unit by unit, where its length is not known.
+//!
+//! A stepper counts the bytes consumed in a `usize`. Before each unit these searches ask whether
+//! its place still fits, which is the condition of `consume`.
+
+ghost use Rattle.std.specs.Prelude.{◌≡◌};
+ghost use Rattle.std.specs.Iterator.{IsFinite};
+ghost use Rattle.daachorse_model.specs.declared.MatchKind.TheVariants.{Standard};
+ghost use Rattle.daachorse_bytewise.specs.Automata as bytes;
+ghost use Rattle.daachorse_charwise.specs.Automata as characters;
+
+use daachorse::{CharwiseDoubleArrayAhoCorasick, DoubleArrayAhoCorasick, Match};
+use std::io::{self, ErrorKind, Read};
+
+/// Returns the match that ends first in what a reader gives, and reads no byte past it.
+pub fn first_in_reader<R: Read + Drop>(
+    words: &DoubleArrayAhoCorasick<u32>,
+    reader: R,
+) -> io::Result<Option<Match<u32>>>
+    requires standard { bytes.kind_of words.now ≡ Standard }
+{
+    let mut stepper = words.find_stepper();
+    if stepper.matches().is_some() {
+        return Ok(stepper.matches());
+    }
+    for byte in reader.bytes() {
+        if stepper.place() == usize::MAX {
+            return Err(io::Error::from(ErrorKind::FileTooLarge));
+        }
+        stepper.consume(byte?);
+        if stepper.matches().is_some() {
+            return Ok(stepper.matches());
+        }
+    }
+    Ok(None)
+}
+
+/// Returns the match that ends first among characters, and takes none past it. Returns `None` also
+/// where no match ends at a place that fits a `usize`.
+pub fn first_in_characters<I: Iterator<Item = char> + Drop>(
+    words: &CharwiseDoubleArrayAhoCorasick<u32>,
+    source: I,
+) -> Option<Match<u32>>
+    requires standard { characters.kind_of words.now ≡ Standard }
+    requires can { I.can_next source }
+    requires ends { IsFinite (I.remaining source) }
+{
+    let mut stepper = words.find_stepper();
+    if stepper.matches().is_some() {
+        return stepper.matches();
+    }
+    for character in source {
+        if usize::MAX - stepper.place() < character.len_utf8() {
+            return None;
+        }
+        stepper.consume(character);
+        if stepper.matches().is_some() {
+            return stepper.matches();
+        }
+    }
+    None
+}

@@ -29,7 +29,7 @@ mod replacing;
 pub mod states;
 mod written;
 
-pub use crate::bytewise::accelerated::Accelerated;
+pub use crate::bytewise::accelerated::{AccelerateError, Accelerated};
 pub use crate::bytewise::builder::DoubleArrayAhoCorasickBuilder;
 use crate::bytewise::iter::{
     FindIterator, FindOverlappingIterator, FindOverlappingNoSuffixIterator,

@@ -32,7 +32,7 @@ mod replacing;
 pub mod states;
 mod written;
 
-pub use crate::charwise::accelerated::Accelerated;
+pub use crate::charwise::accelerated::{AccelerateError, Accelerated};
 pub use crate::charwise::builder::CharwiseDoubleArrayAhoCorasickBuilder;
 use crate::charwise::iter::{
     FindIterator, FindOverlappingIterator, FindOverlappingNoSuffixIterator,

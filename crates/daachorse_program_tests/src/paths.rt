@@ -51,10 +51,10 @@ mod over_bytes {
 
 /// The names of the automaton over bytes with rows of its states.
 mod over_rows {
-    pub use daachorse::bytewise::Accelerated;
     pub use daachorse::bytewise::accelerated::{
         Accelerated as ByItsModule, RowedLeftmost, RowedStandard,
     };
+    pub use daachorse::bytewise::{AccelerateError, Accelerated};
 }
 
 /// The names of the automaton over characters.
@@ -71,7 +71,7 @@ mod over_characters {
         Automaton, Leftmost, Look, Seen, Standard, State, States, Turns,
     };
     pub use daachorse::charwise::{
-        Accelerated, CharwiseDoubleArrayAhoCorasick,
+        AccelerateError, Accelerated, CharwiseDoubleArrayAhoCorasick,
         CharwiseDoubleArrayAhoCorasickBuilder as Builder,
     };
 }

@@ -6,5 +6,6 @@
 
 pub mod label;
 mod making;
+pub mod refused;
 pub mod rows;
 pub mod view;

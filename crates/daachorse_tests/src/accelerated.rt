@@ -22,7 +22,7 @@ fn has_room(alloc: Global, pairs: usize) -> Result<bool> {
         patvals.push((pattern, 0))?;
     }
     let automaton: Bytewise = DoubleArrayAhoCorasick::with_values(alloc, patvals.iter().copied())?;
-    Ok(automaton.accelerate(alloc)?.is_some())
+    Ok(automaton.accelerate(alloc).is_ok())
 }
 
 #[test]

@@ -188,6 +188,15 @@ pub fn refused(error: DaachorseError, is_last: bool) -> Result<bool> {
     if is_last { Err(error) } else { Ok(false) }
 }
 
+/// The outcome of an `accelerate` that gave an automaton back: its refusal, or false if it gave
+/// another one or had no room.
+pub fn given_back(refusal: Option<DaachorseError>, is_same: bool) -> Result<bool> {
+    match refusal {
+        Some(error) if is_same => Err(error),
+        _ => Ok(false),
+    }
+}
+
 /// Builds the automaton of these patterns in this way, then writes and reads it if the way says so.
 pub fn made<S: Automaton>(
     alloc: S::Alloc,

@@ -1,7 +1,8 @@
 //! What the tests ask of the automaton over bytes, with rows and without.
 
 use crate::automata::{
-    Automaton, Bytewise, Listed, PATVALS, Plainly, Searched, SearchedInBytes, finds, refused,
+    Automaton, Bytewise, Listed, PATVALS, Plainly, Searched, SearchedInBytes, finds, given_back,
+    refused,
 };
 use crate::finding::{Found, are, are_found, are_found_overlapping, gives, gives_leftmost};
 use crate::replaced::{bracket, instead, write_bracketed};
@@ -70,7 +71,7 @@ impl<A: Allocator + Copy> SearchedInBytes for Bytewise<A> {
     }
 }
 
-impl<A: Allocator + Copy> SearchedInBytes for Accelerated<'_, u32, A> {
+impl<A: Allocator + Copy> SearchedInBytes for Accelerated<u32, A> {
     fn finds_in_bytes(&self, search: Search, haystack: &[u8], expected: &[Found]) -> bool {
         if !self.automaton().match_kind().is_standard() {
             return gives_leftmost(self.leftmost_find_iter(haystack), expected);
@@ -151,7 +152,7 @@ impl<A: Allocator + Copy> Searched for Bytewise<A> {
     }
 }
 
-impl<A: Allocator + Copy> Searched for Accelerated<'_, u32, A> {
+impl<A: Allocator + Copy> Searched for Accelerated<u32, A> {
     type Alloc = A;
 
     fn finds_in_slice(&self, search: Search, text: &str, expected: &[Found]) -> bool {
@@ -335,9 +336,17 @@ impl<A: Allocator + Copy> Automaton for Bytewise<A> {
         text: &str,
         expected: &[Found],
     ) -> Result<bool> {
-        match self.accelerate(alloc)? {
-            Some(accelerated) => finds(alloc, &accelerated, search, text, expected),
-            None => Ok(false),
+        match self.clone()?.accelerate(alloc) {
+            Ok(accelerated) => {
+                let first = (
+                    accelerated.find(text.as_bytes()),
+                    accelerated.is_match(text.as_bytes()),
+                );
+                let is_first = first == self.first(text);
+                let is_found = finds(alloc, &accelerated, search, text, expected)?;
+                Ok(is_first && is_found && accelerated.into_automaton() == *self)
+            }
+            Err(error) => given_back(error.refusal, error.automaton == *self),
         }
     }
 

@@ -1,7 +1,7 @@
 //! What the tests ask of the automaton over characters, with rows and without.
 
 use crate::automata::{
-    Automaton, Charwise, Listed, PATTERNS, PATVALS, Plainly, Searched, finds, refused,
+    Automaton, Charwise, Listed, PATTERNS, PATVALS, Plainly, Searched, finds, given_back, refused,
 };
 use crate::finding::{Found, are, are_found, are_found_overlapping, gives, gives_leftmost};
 use crate::replaced::{bracket_text, instead_of_text, write_bracketed};
@@ -72,7 +72,7 @@ impl<A: Allocator + Copy> Searched for Charwise<A> {
     }
 }
 
-impl<A: Allocator + Copy> Searched for Accelerated<'_, u32, A> {
+impl<A: Allocator + Copy> Searched for Accelerated<u32, A> {
     type Alloc = A;
 
     fn finds_in_slice(&self, search: Search, text: &str, expected: &[Found]) -> bool {
@@ -274,9 +274,14 @@ impl<A: Allocator + Copy> Automaton for Charwise<A> {
         text: &str,
         expected: &[Found],
     ) -> Result<bool> {
-        match self.accelerate(alloc)? {
-            Some(accelerated) => finds(alloc, &accelerated, search, text, expected),
-            None => Ok(false),
+        match self.clone()?.accelerate(alloc) {
+            Ok(accelerated) => {
+                let first = (accelerated.find(text), accelerated.is_match(text));
+                let is_first = first == self.first(text);
+                let is_found = finds(alloc, &accelerated, search, text, expected)?;
+                Ok(is_first && is_found && accelerated.into_automaton() == *self)
+            }
+            Err(error) => given_back(error.refusal, error.automaton == *self),
         }
     }
 

@@ -41,7 +41,7 @@ fn is_resumed_overlapping(automaton: &Bytewise) -> bool
 }
 
 /// Whether [`is_resumed`] holds over rows of states.
-fn is_resumed_over_rows(accelerated: &Accelerated<'_, u32>) -> bool
+fn is_resumed_over_rows(accelerated: &Accelerated<u32>) -> bool
     requires { accelerated.now.automaton.parts.kind ≡ Standard }
 {
     let mut stepper = accelerated.find_stepper();
@@ -52,7 +52,7 @@ fn is_resumed_over_rows(accelerated: &Accelerated<'_, u32>) -> bool
 }
 
 /// Whether [`is_resumed_overlapping`] holds over rows of states.
-fn is_resumed_overlapping_over_rows(accelerated: &Accelerated<'_, u32>) -> bool
+fn is_resumed_overlapping_over_rows(accelerated: &Accelerated<u32>) -> bool
     requires { accelerated.now.automaton.parts.kind ≡ Standard }
 {
     let mut stepper = accelerated.find_overlapping_stepper();
@@ -66,11 +66,11 @@ fn is_resumed_overlapping_over_rows(accelerated: &Accelerated<'_, u32>) -> bool
 fn are_resumed_over_rows(alloc: Global, automaton: &Bytewise) -> Result<bool>
     requires { automaton.now.parts.kind ≡ Standard }
 {
-    match automaton.accelerate(alloc)? {
-        Some(accelerated) => Ok(
+    match automaton.clone()?.accelerate(alloc) {
+        Ok(accelerated) => Ok(
             is_resumed_over_rows(&accelerated) && is_resumed_overlapping_over_rows(&accelerated),
         ),
-        None => Ok(false),
+        Err(_) => Ok(false),
     }
 }
 

@@ -24,11 +24,12 @@ use crate::bytewise::iter::{
     FindSliceIterator, FindStepper, LeftmostFindIterator,
 };
 use crate::bytewise::{DoubleArrayAhoCorasick, states};
-use daachorse_core::errors::Result;
+use daachorse_core::errors::{DaachorseError, Result};
 use daachorse_haystack::haystack::Bytes;
 use daachorse_haystack::source;
 use daachorse_prefilter::buckets::{Buckets, BucketsBuilder, Filling};
 use daachorse_prefilter::skipping::Skipping;
+pub use daachorse_rows::refused::AccelerateError;
 use daachorse_rows::rows::Rows;
 use daachorse_rows::view::RowView;
 use daachorse_search::find::{FindWalk, find_in};
@@ -48,20 +49,20 @@ pub type RowedStandard<'a, V> = RowView<'a, V, states::Standard<'a, V>>;
 /// The view of states with rows for leftmost searches.
 pub type RowedLeftmost<'a, V> = RowView<'a, V, states::Leftmost<'a, V>>;
 
-/// A borrowed automaton with rows of the states near its root. Searches find the same matches.
+/// An automaton with rows of the states near its root. Searches find the same matches.
 ///
 /// A row gives for each byte the state at which the whole step ends, so that a search takes one
 /// look for each byte while it stays in rows, and follows no failure link. If no step leaves the
 /// rows, each standard search and stepper takes at most one turn for each byte.
 #[derive(Drop)]
-pub struct Accelerated<'a, V: Copy, A: Allocator = Global> {
-    automaton: &'a DoubleArrayAhoCorasick<V, A>,
+pub struct Accelerated<V: Copy, A: Allocator = Global> {
+    automaton: DoubleArrayAhoCorasick<V, A>,
     rows: Rows<A>,
     // Asked by searches in a slice ahead of the prefilter.
     buckets: Option<Buckets<A>>,
 }
 
-impl<'a, V: Copy, A: Allocator> Model for Accelerated<'a, V, A> {
+impl<V: Copy, A: Allocator> Model for Accelerated<V, A> {
     ghost use Rattle.daachorse_bytewise.specs.Accelerated.{Accelerated};
     ghost use Rattle.daachorse_bytewise_states.specs.StateRows.{HasRows};
     ghost use Rattle.daachorse_prefilter.specs.Buckets.{MayTell};
@@ -69,43 +70,57 @@ impl<'a, V: Copy, A: Allocator> Model for Accelerated<'a, V, A> {
 
     ghost Value = { Accelerated V };
 
-    ghost view = { λ s. record { automaton = s.automaton.now; rows = s.rows; buckets = s.buckets } };
+    ghost view = { λ s. record { automaton = s.automaton; rows = s.rows; buckets = s.buckets } };
 
-    ghost invariant = { λ s. HasRows s.automaton.now.parts s.rows × MayTell (λ w. w) (dictionary_of s.automaton.now) s.buckets };
+    ghost invariant = { λ s. HasRows s.automaton.parts s.rows × MayTell (λ w. w) (dictionary_of s.automaton) s.buckets };
 }
 
 impl<V: Copy, A: Allocator + Copy> DoubleArrayAhoCorasick<V, A> {
     /// Makes rows of the states near the root, for faster searches.
     ///
-    /// Each prefix of at most two bytes gets a row, or the call returns `None` if there is no room
-    /// for these. Longer prefixes get rows while there is room. A row has three slots and one for
-    /// each byte that occurs in patterns, rounded up to a multiple of four, and the 126,336 slots
-    /// are at least 485 rows.
+    /// Each prefix of at most two bytes gets a row. If there is no room for these, or an allocation
+    /// fails, the error has the automaton. Longer prefixes get rows while there is room. A row has
+    /// three slots and one for each byte that occurs in patterns, rounded up to a multiple of four,
+    /// and the 126,336 slots are at least 485 rows.
     ///
     /// Use it to search much text for up to some thousand words, or one thousand in a leftmost
     /// search. Tens of thousands make overlapping and leftmost searches slower (`docs/SPEED.md`).
     ///
     /// With a prefilter and no pattern of less than three bytes, searches in a slice also ask eight
     /// buckets of patterns, unless the shortest has six bytes and there are fewer than 1,024 states.
-    /// The rows take at most 256 KiB and two bytes for each element, and the buckets 64 KiB. Fails
-    /// only if an allocation fails.
-    pub fn accelerate<'a>(&'a self, alloc: A) -> Result<Option<Accelerated<'a, V, A>>>
-        ensures automaton { IfOk result (λ a. IfSome a (λ a. a.automaton ≡ self.entry.now)) }
-        ensures covered { IfOk result (λ a. IfSome a HasRowsNear) }
-        ensures stays { IfOk result (λ a. IfSome a (λ a. kind_of a.automaton ≡ Standard → IsAllRowsUnlessLarge a)) }
-        ensures told { IfOk result (λ a. IfSome a MayTellBuckets) }
-        ensures none { IfOk result (λ a. a ≡ None → HasNoRoom (states_of self.entry.now)) }
-        ensures err { IfErr result IsOutOfMemory }
+    /// The rows take at most 256 KiB and two bytes for each element, and the buckets 64 KiB.
+    pub fn accelerate(self, alloc: A) -> Result<Accelerated<V, A>, AccelerateError<Self>>
+        ensures automaton { IfOk result (λ a. a.automaton ≡ self) }
+        ensures covered { IfOk result HasRowsNear }
+        ensures stays { IfOk result (λ a. kind_of a.automaton ≡ Standard → IsAllRowsUnlessLarge a) }
+        ensures told { IfOk result MayTellBuckets }
+        ensures back { IfErr result (λ e. e.automaton ≡ self) }
+        ensures none { IfErr result (λ e. e.refusal ≡ None → HasNoRoom (states_of self)) }
+        ensures err { IfErr result (λ e. IfSome e.refusal IsOutOfMemory) }
     {
-        let Some(rows) = self.states.rows(alloc)? else {
-            return Ok(None);
+        let rows = match self.states.rows(alloc) {
+            Ok(Some(rows)) => rows,
+            Ok(None) => return Err(self.refused(None)),
+            Err(error) => return Err(self.refused(Some(error.into()))),
         };
-        let buckets = self.buckets(alloc)?;
-        Ok(Some(Accelerated {
+        match self.buckets(alloc) {
+            Ok(buckets) => Ok(Accelerated {
+                automaton: self,
+                rows,
+                buckets,
+            }),
+            Err(error) => Err(self.refused(Some(error))),
+        }
+    }
+
+    fn refused(self, refusal: Option<DaachorseError>) -> AccelerateError<Self>
+        ensures automaton { result.automaton ≡ self }
+        ensures refusal { result.refusal ≡ refusal }
+    {
+        AccelerateError {
             automaton: self,
-            rows,
-            buckets,
-        }))
+            refusal,
+        }
     }
 
     /// The buckets of the patterns, if there is a prefilter and they are ahead of it.
@@ -162,12 +177,24 @@ impl<V: Copy, A: Allocator> DoubleArrayAhoCorasick<V, A> {
     }
 }
 
-impl<'a, V: Copy, A: Allocator> Accelerated<'a, V, A> {
+impl<V: Copy, A: Allocator> Accelerated<V, A> {
+    /// Returns the automaton without its rows.
+    pub fn into_automaton(self) -> DoubleArrayAhoCorasick<V, A>
+        ensures { result ≡ self.automaton }
+    {
+        let Accelerated {
+            automaton,
+            rows: _rows,
+            buckets: _buckets,
+        } = self;
+        automaton
+    }
+
     /// Returns the automaton whose states have the rows.
-    pub fn automaton(&self) -> &'a DoubleArrayAhoCorasick<V, A>
+    pub fn automaton(&self) -> &DoubleArrayAhoCorasick<V, A>
         ensures { result.now ≡ self.now.automaton }
     {
-        self.automaton
+        &self.automaton
     }
 
     /// The states and their rows as standard searches see them.

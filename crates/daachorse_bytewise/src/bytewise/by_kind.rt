@@ -7,7 +7,7 @@ ghost use Rattle.daachorse_model.specs.Matches.{overlapping};
 ghost use Rattle.daachorse_replacing.specs.ByKind.{non_overlapping};
 ghost use Rattle.daachorse_bytewise.specs.Automata.{dictionary_of, kind_of};
 
-use super::DoubleArrayAhoCorasick;
+use super::{Accelerated, DoubleArrayAhoCorasick};
 use daachorse_core::{Match, MatchKind};
 use std::alloc::Allocator;
 
@@ -31,6 +31,27 @@ impl<V: Copy, A: Allocator> DoubleArrayAhoCorasick<V, A> {
     /// Returns whether a pattern occurs in the haystack. An empty one always does.
     pub fn is_match(&self, haystack: &[u8]) -> bool
         ensures { IsTrue result ↔ (overlapping byte_width (dictionary_of self.now) (as_read self.now.folds haystack.now) ≢ []) }
+    {
+        self.find(haystack).is_some()
+    }
+}
+
+impl<V: Copy, A: Allocator> Accelerated<V, A> {
+    /// As [`DoubleArrayAhoCorasick::find`], over rows.
+    pub fn find(&self, haystack: &[u8]) -> Option<Match<V>>
+        ensures { result ≡ slice_get (non_overlapping (kind_of self.now.automaton) byte_width (dictionary_of self.now.automaton) (as_read self.now.automaton.folds haystack.now)) 0 }
+    {
+        match self.automaton().match_kind() {
+            MatchKind::Standard => self.find_iter(haystack).next(),
+            MatchKind::LeftmostLongest | MatchKind::LeftmostFirst => {
+                self.leftmost_find_iter(haystack).next()
+            }
+        }
+    }
+
+    /// As [`DoubleArrayAhoCorasick::is_match`], over rows.
+    pub fn is_match(&self, haystack: &[u8]) -> bool
+        ensures { IsTrue result ↔ (overlapping byte_width (dictionary_of self.now.automaton) (as_read self.now.automaton.folds haystack.now) ≢ []) }
     {
         self.find(haystack).is_some()
     }

@@ -8,7 +8,7 @@ ghost use Rattle.daachorse_model.specs.Matches.{overlapping};
 ghost use Rattle.daachorse_replacing.specs.ByKind.{non_overlapping};
 ghost use Rattle.daachorse_charwise.specs.Automata.{dictionary_of, kind_of};
 
-use super::CharwiseDoubleArrayAhoCorasick;
+use super::{Accelerated, CharwiseDoubleArrayAhoCorasick};
 use daachorse_core::{Match, MatchKind};
 use std::alloc::Allocator;
 
@@ -32,6 +32,27 @@ impl<V: Copy, A: Allocator> CharwiseDoubleArrayAhoCorasick<V, A> {
     /// Returns whether a pattern occurs in the haystack. An empty one always does.
     pub fn is_match(&self, haystack: &str) -> bool
         ensures { IsTrue result ↔ (overlapping char_width (dictionary_of self.now) (as_read self.now.folds (chars haystack.now)) ≢ []) }
+    {
+        self.find(haystack).is_some()
+    }
+}
+
+impl<V: Copy, A: Allocator> Accelerated<V, A> {
+    /// As [`CharwiseDoubleArrayAhoCorasick::find`], over rows.
+    pub fn find(&self, haystack: &str) -> Option<Match<V>>
+        ensures { result ≡ slice_get (non_overlapping (kind_of self.now.automaton) char_width (dictionary_of self.now.automaton) (as_read self.now.automaton.folds (chars haystack.now))) 0 }
+    {
+        match self.automaton().match_kind() {
+            MatchKind::Standard => self.find_iter(haystack).next(),
+            MatchKind::LeftmostLongest | MatchKind::LeftmostFirst => {
+                self.leftmost_find_iter(haystack).next()
+            }
+        }
+    }
+
+    /// As [`CharwiseDoubleArrayAhoCorasick::is_match`], over rows.
+    pub fn is_match(&self, haystack: &str) -> bool
+        ensures { IsTrue result ↔ (overlapping char_width (dictionary_of self.now.automaton) (as_read self.now.automaton.folds (chars haystack.now)) ≢ []) }
     {
         self.find(haystack).is_some()
     }

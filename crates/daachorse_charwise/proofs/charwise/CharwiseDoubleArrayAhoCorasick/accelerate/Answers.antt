@@ -2,24 +2,29 @@
 use Rattle.std.proofs.Common.{◌≡◌, subst}
 use Rattle.std.proofs.lemmas.Option.{MatchOption-at_some}
 use Rattle.daachorse_model.specs.declared.MatchKind.TheVariants.{Standard}
-use Rattle.daachorse_charwise_states.specs.StateRows.{CoversNear, HasFewCodes, HasRows, StaysUnlessLarge}
+use Rattle.daachorse_charwise_states.specs.StateRows.{CoversNear, HasFewCodes, HasNoRoom, HasRows, StaysUnlessLarge}
 use Rattle.daachorse_charwise.specs.Automata.{Automaton}
 use Rattle.daachorse_charwise.proofs.charwise.CharwiseDoubleArrayAhoCorasick.accelerate.Goals as goal
 
 pub invariant_of-result : goal.invariant_of-result
 invariant_of-result g c =
-    let P : Automaton g.row.V.Denot → Type 0 = λ a. HasRows a.parts c.in-Some.rows in
-    (subst P c.self.view_is (MatchOption-at_some _ (λ r. HasRows c.self.inside.states r) c.in-Some.rows c.in-Some.is c.in_ok-rows.ensures.right), c.in_ok-buckets.ensures.told)
+    let P : Automaton g.row.V.Denot → Type 0 = λ a. HasRows a.parts c.in-Ok-Some.rows in
+    (subst P c.self.view_is (MatchOption-at_some _ (λ r. HasRows c.self.inside.states r) c.in-Ok-Some.rows c.in-Ok-Some.field-0-is c.in-Ok-Some.ensures.right), c.in-Ok.ensures.told)
 
-pub returns-clause-covered : goal.returns-clause-covered
-returns-clause-covered g c =
-    let P : Automaton g.row.V.Denot → Type 0 = λ a. CoversNear a.parts c.in-Some.rows in
-    subst P c.self.view_is (MatchOption-at_some _ (λ r. CoversNear c.self.inside.states r) c.in-Some.rows c.in-Some.is c.in_ok-rows.ensures.covered)
+pub returns-in-Ok-None-clause-none : goal.returns-in-Ok-None-clause-none
+returns-in-Ok-None-clause-none g c none =
+    let P : Automaton g.row.V.Denot → Type 0 = λ a. HasNoRoom a.parts in
+    subst P c.self.view_is (c.in-Ok-None.ensures.none c.in-Ok-None.field-0-is)
 
-pub returns-clause-stays : goal.returns-clause-stays
-returns-clause-stays g c =
-    let P : Automaton g.row.V.Denot → Type 0 = λ a. a.parts.kind ≡ Standard → HasFewCodes a.parts → StaysUnlessLarge a.parts c.in-Some.rows in
-    subst P c.self.view_is (MatchOption-at_some _ (λ r. c.self.inside.states.kind ≡ Standard → HasFewCodes c.self.inside.states → StaysUnlessLarge c.self.inside.states r) c.in-Some.rows c.in-Some.is c.in_ok-rows.ensures.stays)
+pub returns-in-Ok-clause-covered : goal.returns-in-Ok-clause-covered
+returns-in-Ok-clause-covered g c =
+    let P : Automaton g.row.V.Denot → Type 0 = λ a. CoversNear a.parts c.in-Ok-Some.rows in
+    subst P c.self.view_is (MatchOption-at_some _ (λ r. CoversNear c.self.inside.states r) c.in-Ok-Some.rows c.in-Ok-Some.field-0-is c.in-Ok-Some.ensures.covered)
 
-pub returns-clause-told : goal.returns-clause-told
-returns-clause-told g c = c.in_ok-buckets.ensures.told
+pub returns-in-Ok-clause-stays : goal.returns-in-Ok-clause-stays
+returns-in-Ok-clause-stays g c =
+    let P : Automaton g.row.V.Denot → Type 0 = λ a. a.parts.kind ≡ Standard → HasFewCodes a.parts → StaysUnlessLarge a.parts c.in-Ok-Some.rows in
+    subst P c.self.view_is (MatchOption-at_some _ (λ r. c.self.inside.states.kind ≡ Standard → HasFewCodes c.self.inside.states → StaysUnlessLarge c.self.inside.states r) c.in-Ok-Some.rows c.in-Ok-Some.field-0-is c.in-Ok-Some.ensures.stays)
+
+pub returns-in-Ok-clause-told : goal.returns-in-Ok-clause-told
+returns-in-Ok-clause-told g c = c.in-Ok.ensures.told

@@ -18,7 +18,7 @@ returns g c =
           let P : Accelerated g.row.V.Denot → Type 0 = λ a. BeginsAskingBoth a.buckets a.automaton.filter c.with_buckets.result in
           subst P c.self.view_is (record { filter = c.with_buckets.ensures.filter ∙ c.skipping.ensures.asks.filter; buckets = buckets; gate = rw c.with_buckets.ensures.gate c.skipping.ensures.asks.gate; buckets_gate = rw c.with_buckets.ensures.buckets_gate c.skipping.ensures.asks.buckets_gate });
       sound =
-          let M : Option (List ℕ) → Type 0 = λ m. IsSoundFor (λ w. lets_pass (may_begin m) c.skipping.result.filter (encode_utf8_all w)) (dictionary_of c.self.inside.automaton.now) in
-          sound_asked encode_utf8_all (dictionary_of c.self.inside.automaton.now) encodes-append c.self.inside.buckets c.with_buckets.result.buckets c.skipping.result.filter c.with_buckets.result.filter (dictionary_of c.args.self.now.automaton)
+          let M : Option (List ℕ) → Type 0 = λ m. IsSoundFor (λ w. lets_pass (may_begin m) c.skipping.result.filter (encode_utf8_all w)) (dictionary_of c.self.inside.automaton) in
+          sound_asked encode_utf8_all (dictionary_of c.self.inside.automaton) encodes-append c.self.inside.buckets c.with_buckets.result.buckets c.skipping.result.filter c.with_buckets.result.filter (dictionary_of c.args.self.now.automaton)
           c.self.invariant.1 (subst M c.skipping.ensures.asks.buckets c.skipping.ensures.sound) buckets c.with_buckets.ensures.filter (ap (λ (a : Accelerated g.row.V.Denot). dictionary_of a.automaton) c.self.view_is);
     }

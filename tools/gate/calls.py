@@ -14,12 +14,14 @@ PAGE = TOP / "CALLS.md"
 FILES = {
     "daachorse::bytewise": [
         "daachorse_bytewise/src/bytewise.rt", "daachorse_bytewise/src/bytewise/builder.rt",
-        "daachorse_bytewise/src/bytewise/by_kind.rt", "daachorse_bytewise/src/bytewise/replacing.rt",
+        "daachorse_bytewise/src/bytewise/by_kind.rt", "daachorse_bytewise/src/bytewise/lookup.rt",
+        "daachorse_bytewise/src/bytewise/replacing.rt",
         "daachorse_bytewise/src/bytewise/written.rt",
         "daachorse_bytewise/src/bytewise/accelerated.rt"],
     "daachorse::charwise": [
         "daachorse_charwise/src/charwise.rt", "daachorse_charwise/src/charwise/builder.rt",
-        "daachorse_charwise/src/charwise/by_kind.rt", "daachorse_charwise/src/charwise/replacing.rt",
+        "daachorse_charwise/src/charwise/by_kind.rt", "daachorse_charwise/src/charwise/lookup.rt",
+        "daachorse_charwise/src/charwise/replacing.rt",
         "daachorse_charwise/src/charwise/written.rt",
         "daachorse_charwise/src/charwise/accelerated.rt"],
     "daachorse::bytewise::iter, daachorse::charwise::iter": [

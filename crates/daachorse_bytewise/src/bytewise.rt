@@ -25,6 +25,7 @@ pub mod accelerated;
 pub mod builder;
 mod by_kind;
 pub mod iter;
+mod lookup;
 mod replacing;
 pub mod states;
 mod written;
@@ -63,8 +64,9 @@ use std::marker::Model;
 /// places of a match count bytes. An element takes 12 bytes, and an output of a `u32` 12.
 ///
 /// Searches and steppers need [`MatchKind::Standard`], but [`Self::leftmost_find_iter`] needs
-/// another kind, and [`Self::find`], [`Self::is_match`] and [`Self::replace_all`] take any. None
-/// takes memory. A standard search takes at most two turns, looks at one state, for each byte.
+/// another kind, and [`Self::find`], [`Self::is_match`], [`Self::replace_all`] and lookups, as
+/// [`Self::get`], take any. None takes memory. A standard search takes at most two turns, looks at
+/// one state, for each byte.
 ///
 /// Threads can share an automaton: it is `Send` and `Sync` if its values and its allocator are.
 #[derive(Drop)]

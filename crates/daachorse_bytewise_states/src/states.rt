@@ -16,6 +16,7 @@ ghost use Rattle.daachorse_bytewise_states.specs.Parts.{child, child_among, cont
 ghost use Rattle.daachorse_bytewise_states.specs.Valid.{IsRootTable, IsValid};
 
 mod form;
+mod lookup;
 
 use crate::edges::Elements;
 use crate::for_kinds::{ByKind, ForKinds};

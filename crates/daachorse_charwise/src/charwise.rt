@@ -27,6 +27,7 @@ pub mod builder;
 mod by_kind;
 mod frequencies;
 pub mod iter;
+mod lookup;
 pub mod mapper;
 mod replacing;
 pub mod states;
@@ -66,8 +67,9 @@ use std::marker::Model;
 /// patterns.
 ///
 /// Searches and steppers need [`MatchKind::Standard`], but [`Self::leftmost_find_iter`] needs
-/// another kind, and [`Self::find`], [`Self::is_match`] and [`Self::replace_all`] take any. None
-/// takes memory. A standard search takes at most two turns, looks at one state, for each character.
+/// another kind, and [`Self::find`], [`Self::is_match`], [`Self::replace_all`] and lookups, as
+/// [`Self::get`], take any. None takes memory. A standard search takes at most two turns, looks at
+/// one state, for each character.
 ///
 /// Threads can share an automaton: it is `Send` and `Sync` if its values and its allocator are.
 #[derive(Drop)]

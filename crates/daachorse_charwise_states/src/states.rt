@@ -17,6 +17,7 @@ ghost use Rattle.daachorse_charwise_states.specs.Parts.{child, content, count};
 ghost use Rattle.daachorse_charwise_states.specs.Valid.{IsValid};
 
 mod form;
+mod lookup;
 
 use crate::edges::Elements;
 use crate::mapper::CodeMapper;

@@ -38,10 +38,10 @@ use std::test::Fail;
 mod over_bytes {
     pub use daachorse::bytewise::builder::DoubleArrayAhoCorasickBuilder;
     pub use daachorse::bytewise::iter::{
-        FindIterator, FindOverlappingIterator, FindOverlappingNoSuffixIterator,
-        FindOverlappingNoSuffixSliceIterator, FindOverlappingSliceIterator, FindOverlappingStepper,
-        FindOverlappingStepperIterator, FindSliceIterator, FindStepper, LeftmostFindIterator,
-        PatternIterator,
+        CommonPrefixIterator, FindIterator, FindOverlappingIterator,
+        FindOverlappingNoSuffixIterator, FindOverlappingNoSuffixSliceIterator,
+        FindOverlappingSliceIterator, FindOverlappingStepper, FindOverlappingStepperIterator,
+        FindSliceIterator, FindStepper, LeftmostFindIterator, PatternIterator, ValueIterator,
     };
     pub use daachorse::bytewise::states::{Leftmost, Seen, Standard, State};
     pub use daachorse::bytewise::{
@@ -61,10 +61,10 @@ mod over_rows {
 mod over_characters {
     pub use daachorse::charwise::builder::CharwiseDoubleArrayAhoCorasickBuilder;
     pub use daachorse::charwise::iter::{
-        CharWithEndOffsetIterator, FindIterator, FindOverlappingIterator,
+        CharWithEndOffsetIterator, CommonPrefixIterator, FindIterator, FindOverlappingIterator,
         FindOverlappingNoSuffixIterator, FindOverlappingNoSuffixSliceIterator,
         FindOverlappingSliceIterator, FindOverlappingStepper, FindOverlappingStepperIterator,
-        FindSliceIterator, FindStepper, LeftmostFindIterator, PatternIterator,
+        FindSliceIterator, FindStepper, LeftmostFindIterator, PatternIterator, ValueIterator,
     };
     pub use daachorse::charwise::mapper::{CodeMapper, INVALID_CODE};
     pub use daachorse::charwise::states::{

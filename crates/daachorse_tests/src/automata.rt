@@ -160,6 +160,12 @@ pub trait Automaton: Searched + PartialEq + Hash + Drop + Sized {
     /// What `find` and `is_match` return for a text.
     fn first(&self, text: &str) -> (Option<Match<u32>>, bool);
 
+    /// Whether these are the values of a text and the matches of the patterns that begin it.
+    fn looks_up(&self, text: &str, values: &[u32], prefixes: &[Found]) -> bool;
+
+    /// The longest pattern that begins a text.
+    fn longest(&self, text: &str) -> Option<Match<u32>>;
+
     /// Whether each form of a search over rows returns exactly these matches; false if there is no
     /// room for rows.
     fn finds_with_rows(

@@ -4,7 +4,9 @@ use crate::automata::{
     Automaton, Bytewise, Listed, PATVALS, Plainly, Searched, SearchedInBytes, finds, given_back,
     refused,
 };
-use crate::finding::{Found, are, are_found, are_found_overlapping, gives, gives_leftmost};
+use crate::finding::{
+    Found, are, are_found, are_found_overlapping, are_values, gives, gives_leftmost,
+};
 use crate::replaced::{bracket, instead, write_bracketed};
 use crate::rows::{BY_CORPUS, Search, Way};
 use daachorse::bytewise::Accelerated;
@@ -327,6 +329,17 @@ impl<A: Allocator + Copy> Automaton for Bytewise<A> {
     fn first(&self, text: &str) -> (Option<Match<u32>>, bool) {
         let haystack = text.as_bytes();
         (self.find(haystack), self.is_match(haystack))
+    }
+
+    fn looks_up(&self, text: &str, values: &[u32], prefixes: &[Found]) -> bool {
+        let text = text.as_bytes();
+        self.contains(text) != values.is_empty()
+            && are_values(self.get(text), values)
+            && are(self.common_prefixes(text), prefixes)
+    }
+
+    fn longest(&self, text: &str) -> Option<Match<u32>> {
+        self.longest_prefix(text.as_bytes())
     }
 
     fn finds_with_rows(

@@ -3,7 +3,9 @@
 use crate::automata::{
     Automaton, Charwise, Listed, PATTERNS, PATVALS, Plainly, Searched, finds, given_back, refused,
 };
-use crate::finding::{Found, are, are_found, are_found_overlapping, gives, gives_leftmost};
+use crate::finding::{
+    Found, are, are_found, are_found_overlapping, are_values, gives, gives_leftmost,
+};
 use crate::replaced::{bracket_text, instead_of_text, write_bracketed};
 use crate::rows::{BY_CORPUS, Search, Way};
 use daachorse::charwise::Accelerated;
@@ -265,6 +267,16 @@ impl<A: Allocator + Copy> Automaton for Charwise<A> {
 
     fn first(&self, text: &str) -> (Option<Match<u32>>, bool) {
         (self.find(text), self.is_match(text))
+    }
+
+    fn looks_up(&self, text: &str, values: &[u32], prefixes: &[Found]) -> bool {
+        self.contains(text) != values.is_empty()
+            && are_values(self.get(text), values)
+            && are(self.common_prefixes(text), prefixes)
+    }
+
+    fn longest(&self, text: &str) -> Option<Match<u32>> {
+        self.longest_prefix(text)
     }
 
     fn finds_with_rows(

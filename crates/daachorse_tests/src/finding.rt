@@ -81,6 +81,20 @@ pub fn are<I: Iterator<Item = Match<u32>> + Drop>(matches: I, expected: &[Found]
     expected.is_met()
 }
 
+/// Whether these are the expected values, in this order.
+pub fn are_values<I: Iterator<Item = u32> + Drop>(values: I, expected: &[u32]) -> bool
+    requires can { I.can_next values }
+    requires ends { IsFinite (I.remaining values) }
+{
+    let mut left = expected.iter();
+    for value in values {
+        if left.next() != Some(&value) {
+            return false;
+        }
+    }
+    left.len() == 0
+}
+
 /// Whether a search returns the expected matches, in this order. It is dropped at any other.
 pub fn gives<W: Stepwise<u32>, H: Haystack<W::Unit>, F: Filter<W::Unit, H>>(
     mut search: Matches<u32, W, H, F>,

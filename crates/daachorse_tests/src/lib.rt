@@ -19,6 +19,8 @@ mod finding;
 #[cfg(test)]
 mod listing;
 #[cfg(test)]
+mod lookups;
+#[cfg(test)]
 mod plain;
 #[cfg(test)]
 mod raw_bytes;

@@ -1,14 +1,13 @@
 //! Looks a text up in a written dictionary.
 
-ghost use Rattle.std.specs.Prelude.{◌≡◌, ◌≢◌, ◌⊎◌, ◌++◌, ℕ, List, IfOk, IfErr, slice_get};
-ghost use Rattle.daachorse_model.specs.declared.MatchKind.TheVariants.{Standard};
+ghost use Rattle.std.specs.Prelude.{◌≡◌, ◌⊎◌, ◌++◌, ℕ, List, IfOk, IfErr, slice_get};
 ghost use Rattle.daachorse_model.specs.Folding.{as_read};
-ghost use Rattle.daachorse_bytewise.specs.Automata.{Automaton, dictionary_of, kind_of};
+ghost use Rattle.daachorse_bytewise.specs.Automata.{Automaton, dictionary_of};
 ghost use Rattle.daachorse_bytewise.specs.ReadForms.{GivesAutomaton, GivesNoAutomaton};
 ghost use Rattle.daachorse_bytewise.specs.Refusals.{IsOutOfMemory};
 ghost use Rattle.daachorse_bytewise.specs.WrittenForms.{IsAutomaton, written_form};
 
-use daachorse::{DoubleArrayAhoCorasick, MatchKind, Result, Serializable};
+use daachorse::{DoubleArrayAhoCorasick, Result, Serializable};
 use std::alloc::Allocator;
 
 /// Returns the first value that the dictionary in `bytes` has for a text, if any.
@@ -39,40 +38,5 @@ pub fn value_of<V: Copy, A: Allocator>(
 ) -> Option<V>
     ensures { result ≡ slice_get (dictionary_of words.now (as_read words.now.folds text.now)) 0 }
 {
-    match words.match_kind() {
-        MatchKind::Standard => value_at_end(words, text),
-        MatchKind::LeftmostLongest | MatchKind::LeftmostFirst => value_at_start(words, text),
-    }
-}
-
-// If the text is a pattern, it is the longest of the matches that end with it, so it starts at 0.
-fn value_at_end<V: Copy, A: Allocator>(
-    words: &DoubleArrayAhoCorasick<V, A>,
-    text: &[u8],
-) -> Option<V>
-    requires { kind_of words.now ≡ Standard }
-    ensures { result ≡ slice_get (dictionary_of words.now (as_read words.now.folds text.now)) 0 }
-{
-    let mut stepper = words.find_overlapping_stepper();
-    for byte in text {
-        stepper.consume(*byte);
-    }
-    match stepper.matches().next() {
-        Some(found) if found.start == 0 => Some(found.value),
-        _ => None,
-    }
-}
-
-// If the text is a pattern, its leftmost match is all of it.
-fn value_at_start<V: Copy, A: Allocator>(
-    words: &DoubleArrayAhoCorasick<V, A>,
-    text: &[u8],
-) -> Option<V>
-    requires { kind_of words.now ≢ Standard }
-    ensures { result ≡ slice_get (dictionary_of words.now (as_read words.now.folds text.now)) 0 }
-{
-    match words.find(text) {
-        Some(found) if found.start == 0 && found.end == text.len() => Some(found.value),
-        _ => None,
-    }
+    words.get(text).next()
 }

@@ -1,9 +1,11 @@
 //! The iterators and steppers of the automaton over bytes. `S` is the view of its states that they
 //! walk through: the states themselves, or those with rows.
 
-use crate::bytewise::states::{Leftmost, Standard};
+use crate::bytewise::states::{Leftmost, Standard, States};
 pub use daachorse_bytewise_states::patterns::PatternIterator;
 use daachorse_haystack::{haystack, source};
+use daachorse_lookup::prefixes::CommonPrefixes;
+use daachorse_lookup::values::Values;
 use daachorse_prefilter::skipping::Skipping;
 use daachorse_search::ending_here::EndingHere;
 use daachorse_search::find::FindWalk;
@@ -77,3 +79,14 @@ pub type FindOverlappingStepper<'a, V, S = Standard<'a, V>> =
 /// The iterator of the stepper's `matches`: those that end with the bytes consumed, the longest
 /// first. It keeps its place while the stepper goes on.
 pub type FindOverlappingStepperIterator<'a, V, S = Standard<'a, V>> = EndingHere<V, S>;
+
+/// The iterator of `get`: the values of one pattern.
+pub type ValueIterator<'a, V> = Values<'a, V>;
+
+/// The iterator of `common_prefixes`: the patterns that begin a slice.
+pub type CommonPrefixIterator<'a, V, A = Global> = CommonPrefixes<
+    'a,
+    V,
+    States<V, A>,
+    haystack::Bytes<'a>,
+>;

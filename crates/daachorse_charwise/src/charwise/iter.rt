@@ -4,9 +4,11 @@
 mod patterns;
 
 pub use crate::charwise::iter::patterns::PatternIterator;
-use crate::charwise::states::{Leftmost, Standard};
+use crate::charwise::states::{Leftmost, Standard, States};
 pub use daachorse_haystack::decoding::{CharWithEndOffsetIterator, Decoded};
 use daachorse_haystack::text::Text;
+use daachorse_lookup::prefixes::CommonPrefixes;
+use daachorse_lookup::values::Values;
 use daachorse_prefilter::skipping::Skipping;
 use daachorse_search::ending_here::EndingHere;
 use daachorse_search::find::FindWalk;
@@ -76,3 +78,9 @@ pub type FindOverlappingStepper<'a, V, S = Standard<'a, V>> =
 /// The iterator of the stepper's `matches`: those that end with the characters consumed, the
 /// longest first. It keeps its place while the stepper goes on.
 pub type FindOverlappingStepperIterator<'a, V, S = Standard<'a, V>> = EndingHere<V, S>;
+
+/// The iterator of `get`: the values of one pattern.
+pub type ValueIterator<'a, V> = Values<'a, V>;
+
+/// The iterator of `common_prefixes`: the patterns that begin a text.
+pub type CommonPrefixIterator<'a, V, A = Global> = CommonPrefixes<'a, V, States<V, A>, Text<'a>>;

@@ -16,10 +16,17 @@ ghost use Rattle.daacfind_command.specs.Runs.{IfBuild, OnWrite, value_gives};
 
 use crate::mode::Mode;
 use crate::sink::{Sink, SinkError, write_whole};
+use daachorse::bytewise::Accelerated;
 use daachorse::errors::DaachorseError;
 use daachorse::{DoubleArrayAhoCorasick, DoubleArrayAhoCorasickBuilder, Match, MatchKind};
 use std::alloc::{AllocError, Allocator};
 use thiserror::Error;
+
+// An automaton with more states gains nothing by rows.
+const MOST_STATES: usize = 40_000;
+
+// To make rows takes less time than they save in so many bytes for each state.
+const BYTES_A_STATE: usize = 64;
 
 // The longest line: two offsets of 20 digits, a value of 10, two spaces and a line feed.
 const LINE_LEN: usize = 53;
@@ -55,7 +62,7 @@ impl From<SinkError> for RunError {
 ///
 /// The patterns have the values 0, 1, 2 and so on. Each match is a line: its start and end, in
 /// bytes, and its value, in decimal, separated by spaces. The sink is flushed once, at the end.
-/// The search allocates nothing.
+/// The search allocates nothing but the rows of states.
 ///
 /// # Errors
 ///
@@ -78,7 +85,7 @@ pub fn run<S: Sink, A: Allocator + Copy>(
     ensures untried { IfErr result (λ e. IfBuild e (λ _. S.failures out.new ≡ S.failures out.old)) }
 {
     let automaton = build(alloc, mode.match_kind(), patterns)?;
-    write_mode(mode, &automaton, haystack, out)?;
+    write_found(alloc, mode, automaton, haystack, out)?;
     out.flush()?;
     Ok(())
 }
@@ -124,9 +131,33 @@ fn pieces<A: Allocator>(alloc: A, file: &[u8]) -> Result<Vec<&[u8], A>, AllocErr
     file.split(|b| *b == b'\n').collect(alloc)
 }
 
-/// Writes each match of the mode in the haystack on a line. The sink is not flushed. If it fails,
-/// it has taken a prefix of the text.
-pub fn write_mode<S: Sink, A: Allocator + Copy>(
+/// Writes each match of the mode in the haystack on a line, over rows of states if these pay and
+/// there is room for them. The sink is not flushed. If it fails, it has taken a prefix of the text.
+pub fn write_found<S: Sink, A: Allocator + Copy>(
+    alloc: A,
+    mode: Mode,
+    automaton: DoubleArrayAhoCorasick<u32, A>,
+    haystack: &[u8],
+    out: &mut S,
+) -> Result<(), SinkError>
+    requires { kind_of automaton ≡ kind_of_mode mode }
+    ensures whole { OnOk result (Appends (S.taken out.old) (S.taken out.new) (match_text (found_by mode (dictionary_of automaton) (as_read automaton.folds haystack.now)))) }
+    ensures unfailed { OnOk result (S.failures out.new ≡ S.failures out.old) }
+    ensures beginning { OnErr result (AppendsBeginning (S.taken out.old) (S.taken out.new) (match_text (found_by mode (dictionary_of automaton) (as_read automaton.folds haystack.now)))) }
+    ensures failed { OnErr result (S.failures out.new ≡ S.failures out.old + 1) }
+{
+    let states = automaton.num_states();
+    if states > MOST_STATES || haystack.len() / BYTES_A_STATE < states {
+        return write_mode(mode, &automaton, haystack, out);
+    }
+    match automaton.accelerate(alloc) {
+        Ok(searcher) => write_mode_over_rows(mode, &searcher, haystack, out),
+        Err(refused) => write_mode(mode, &refused.automaton, haystack, out),
+    }
+}
+
+/// Writes as [`write_found`] does, without rows.
+fn write_mode<S: Sink, A: Allocator + Copy>(
     mode: Mode,
     automaton: &DoubleArrayAhoCorasick<u32, A>,
     haystack: &[u8],
@@ -144,6 +175,28 @@ pub fn write_mode<S: Sink, A: Allocator + Copy>(
         Mode::Find => write_matches(automaton.find_iter(haystack), out),
         Mode::Longest => write_matches(automaton.leftmost_find_iter(haystack), out),
         Mode::First => write_matches(automaton.leftmost_find_iter(haystack), out),
+    }
+}
+
+/// Writes as [`write_found`] does, over rows.
+fn write_mode_over_rows<S: Sink, A: Allocator + Copy>(
+    mode: Mode,
+    searcher: &Accelerated<u32, A>,
+    haystack: &[u8],
+    out: &mut S,
+) -> Result<(), SinkError>
+    requires { kind_of searcher.now.automaton ≡ kind_of_mode mode }
+    ensures whole { OnOk result (Appends (S.taken out.old) (S.taken out.new) (match_text (found_by mode (dictionary_of searcher.now.automaton) (as_read searcher.now.automaton.folds haystack.now)))) }
+    ensures unfailed { OnOk result (S.failures out.new ≡ S.failures out.old) }
+    ensures beginning { OnErr result (AppendsBeginning (S.taken out.old) (S.taken out.new) (match_text (found_by mode (dictionary_of searcher.now.automaton) (as_read searcher.now.automaton.folds haystack.now)))) }
+    ensures failed { OnErr result (S.failures out.new ≡ S.failures out.old + 1) }
+{
+    match mode {
+        Mode::Overlapping => write_matches(searcher.find_overlapping_iter(haystack), out),
+        Mode::NoSuffix => write_matches(searcher.find_overlapping_no_suffix_iter(haystack), out),
+        Mode::Find => write_matches(searcher.find_iter(haystack), out),
+        Mode::Longest => write_matches(searcher.leftmost_find_iter(haystack), out),
+        Mode::First => write_matches(searcher.leftmost_find_iter(haystack), out),
     }
 }
 

@@ -411,6 +411,45 @@ fn a_command_that_fails_tells_its_status(rt: HostRuntime) {
     }
 }
 
+const FAR: &[u8] = b"1000 1002 0\n1002 1004 1\n";
+
+// Whether a run wrote both matches, or was refused memory for its build and wrote nothing.
+fn is_right(outcome: Result<(), RunError>, taken: &[u8]) -> bool {
+    match outcome {
+        Ok(()) => taken == FAR,
+        Err(RunError::Build(DaachorseError::OutOfMemory(_))) => taken.is_empty(),
+        Err(_) => false,
+    }
+}
+
+// Whether a haystack that is long beside its patterns is searched, over rows or, where a request
+// for these is refused, without.
+fn is_found_far(alloc: Global) -> Result<bool, AllocError> {
+    let mut haystack = Vec::new(alloc);
+    for _ in 0..1000u32 {
+        haystack.push(b'x')?;
+    }
+    haystack.extend_from_slice(b"abcd")?;
+    for number in 0..10_000u64 {
+        let refusing = Refusing::new(alloc, number);
+        let mut out = WriterSink::new(Halting::new(alloc, 99));
+        let outcome = run(&refusing, Mode::Find, b"ab\ncd\n", &haystack, &mut out);
+        if !is_right(outcome, &out.writer().taken) {
+            return Ok(false);
+        }
+        if !refusing.has_refused() {
+            return Ok(out.writer().taken.as_slice() == FAR);
+        }
+    }
+    Ok(false)
+}
+
+#[test]
+fn a_long_haystack_is_searched_with_rows_or_without(rt: HostRuntime) -> Result<(), Fail> {
+    expect(&rt, is_found_far(rt.alloc())?, "far");
+    Ok(())
+}
+
 // Whether a single argument is read whole.
 fn is_read(alloc: Global, word: &[u8]) -> Result<bool, AllocError> {
     let arguments = Arguments::read(&Words { words: &[word] }, alloc)?;

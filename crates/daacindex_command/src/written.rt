@@ -14,7 +14,7 @@ ghost use Rattle.daacfind_command.specs.Runs.{value_gives};
 ghost use Rattle.daacindex_command.specs.Written.{BeginsWithForm, IfRefused, IsFormOf, IsOfAnotherKind, IsTextBy, OnFailure, OnKind, OnRefusal};
 
 use daacfind_command::mode::Mode;
-use daacfind_command::run::{build, write_mode};
+use daacfind_command::run::{build, write_found};
 use daacfind_command::sink::{Sink, SinkError, write_whole};
 use daachorse::DoubleArrayAhoCorasick;
 use daachorse::errors::DaachorseError;
@@ -117,7 +117,7 @@ pub fn run_written<S: Sink, A: Allocator + Copy>(
     if searches.match_kind() != mode.match_kind() {
         return Err(IndexError::Kind);
     }
-    write_mode(mode, &searches, haystack, out)?;
+    write_found(alloc, mode, searches, haystack, out)?;
     out.flush()?;
     Ok(())
 }

@@ -46,13 +46,13 @@ begun : {T : Type 0} (r : Result T IndexError) (mode : Mode) (bytes haystack : L
     → IfErr r (λ e. OnFailure e ((t : List ℕ) × IsTextBy mode bytes haystack t × AppendsBeginning old new t))
 begun r mode bytes haystack old new text is by to = at_error r Write (λ e. OnFailure e ((t : List ℕ) × IsTextBy mode bytes haystack t × AppendsBeginning old new t)) is (text, by, to)
 
-pub returns-in_err-write_mode-clause-beginning : goal.returns-in_err-write_mode-clause-beginning
-returns-in_err-write_mode-clause-beginning g c =
+pub returns-in_err-write_found-clause-beginning : goal.returns-in_err-write_found-clause-beginning
+returns-in_err-write_found-clause-beginning g c =
     let s = c.in_ok-searches in
-    begun c.from_residual-in_err-write_mode.result c.args.mode c.args.automaton.now c.args.haystack.now (g.S.Sink.taken c.args.out.now) (g.S.Sink.taken c.write_mode.new.out) (text_by c.args.mode s.searches c.args.haystack.now)
-    c.from_residual-in_err-write_mode.ensures.1
+    begun c.from_residual-in_err-write_found.result c.args.mode c.args.automaton.now c.args.haystack.now (g.S.Sink.taken c.args.out.now) (g.S.Sink.taken c.write_found.new.out) (text_by c.args.mode s.searches c.args.haystack.now)
+    c.from_residual-in_err-write_found.ensures.1
     (by_given c.args.mode c.args.automaton.now c.args.haystack.now s.searches s._rest.now c.match_kind.result c.match_kind-2.result c.ne.result s.ensures.given c.match_kind.ensures c.match_kind-2.ensures c.ne.ensures c.if-ne.false)
-    c.in_err-write_mode.ensures.beginning
+    c.in_err-write_found.ensures.beginning
 
 pub returns-in_err-flush-clause-beginning : goal.returns-in_err-flush-clause-beginning
 returns-in_err-flush-clause-beginning g c =
@@ -63,14 +63,14 @@ returns-in_err-flush-clause-beginning g c =
     c.from_residual-in_err-flush.ensures.1
     (by_given c.args.mode c.args.automaton.now c.args.haystack.now s.searches s._rest.now c.match_kind.result c.match_kind-2.result c.ne.result s.ensures.given c.match_kind.ensures c.match_kind-2.ensures c.ne.ensures c.if-ne.false)
     (all_begun old new (text_by c.args.mode s.searches c.args.haystack.now)
-    (Appends-kept old (g.S.Sink.taken c.write_mode.new.out) new (text_by c.args.mode s.searches c.args.haystack.now) c.in_ok-write_mode.ensures.whole c.in_err-flush.ensures.taken))
+    (Appends-kept old (g.S.Sink.taken c.write_found.new.out) new (text_by c.args.mode s.searches c.args.haystack.now) c.in_ok-write_found.ensures.whole c.in_err-flush.ensures.taken))
 
 pub returns-clause-written : goal.returns-clause-written
 returns-clause-written g c =
     let s = c.in_ok-searches in (
       text_by c.args.mode s.searches c.args.haystack.now,
       by_given c.args.mode c.args.automaton.now c.args.haystack.now s.searches s._rest.now c.match_kind.result c.match_kind-2.result c.ne.result s.ensures.given c.match_kind.ensures c.match_kind-2.ensures c.ne.ensures c.if-ne.false,
-      Appends-kept (g.S.Sink.taken c.args.out.now) (g.S.Sink.taken c.write_mode.new.out) (g.S.Sink.taken c.flush.new.self) (text_by c.args.mode s.searches c.args.haystack.now) c.in_ok-write_mode.ensures.whole c.in_ok-flush.ensures.taken,
+      Appends-kept (g.S.Sink.taken c.args.out.now) (g.S.Sink.taken c.write_found.new.out) (g.S.Sink.taken c.flush.new.self) (text_by c.args.mode s.searches c.args.haystack.now) c.in_ok-write_found.ensures.whole c.in_ok-flush.ensures.taken,
     )
 
 pub returns-in_err-searches-clause-memory : goal.returns-in_err-searches-clause-memory

@@ -37,3 +37,4 @@ pub mod ReachLaws
 pub mod ClimbLaws
 pub mod MachineTrees
 pub mod MachineListings
+pub mod DescentLaws

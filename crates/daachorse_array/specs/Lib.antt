@@ -15,3 +15,5 @@ pub mod Climbs
 pub mod Automata
 pub mod Listing
 pub mod EqualOutputs
+pub mod Lookups
+pub mod Descents

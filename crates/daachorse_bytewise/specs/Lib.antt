@@ -10,7 +10,7 @@ pub use Rattle.daachorse_core.specs.Refusals
 pub use Rattle.daachorse_core.specs.Seen
 pub use Rattle.daachorse_core.specs.declared.errors.DaachorseError
 pub use Rattle.daachorse_array.specs.Listing
-pub use Rattle.daachorse_lookup.specs.Lookups
+pub use Rattle.daachorse_array.specs.Lookups
 pub use Rattle.daachorse_patterns.specs.Patterns
 pub use Rattle.daachorse_patterns.specs.declared.settings.Settings
 pub use Rattle.daachorse_prefilter.specs.Places

@@ -4,6 +4,8 @@
 ghost use Rattle.std.specs.Prelude.{◌≡◌};
 ghost use Rattle.daachorse_model.specs.Kinds.{is_standard, is_leftmost, is_leftmost_first, byte_of_kind, kind_of_byte};
 
+use std::ops::Range;
+
 /// How matches are found.
 ///
 /// An automaton is built for one kind. With the patterns `ab`, `abcd` and `bc`, in this order, the
@@ -97,6 +99,14 @@ impl<V: Copy> Match<V> {
         ensures { result ≡ self.now.end }
     {
         self.end
+    }
+
+    /// Returns the places that the match covers, in bytes.
+    pub fn range(&self) -> Range<usize>
+        ensures start { result.start ≡ self.now.start }
+        ensures end { result.end ≡ self.now.end }
+    {
+        self.start..self.end
     }
 
     /// Returns the value of the match's pattern.

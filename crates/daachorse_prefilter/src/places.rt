@@ -92,8 +92,8 @@ pub fn first_boundary<'f, A: Allocator>(
     find_boundary::<AsItIs, A>(filter, buckets, haystack, 0)
 }
 
-/// The first boundary of what is read of the text from `pos` on at which prefilter and buckets pass,
-/// or its length in bytes. It is cold for the same reason as [`find_place`].
+/// The first boundary of what is read of the text from `pos` on at which prefilter and buckets
+/// pass, or its length in bytes. It is cold for the same reason as [`find_place`].
 #[cold]
 #[inline(never)]
 pub(crate) fn find_boundary<'f, R: ByteReading, A: Allocator>(

@@ -1,5 +1,5 @@
-//! `daachorse_uses`, where no contract speaks: that a redactor reaches the end of a text, and what is
-//! found first in a stream.
+//! `daachorse_uses`, where no contract speaks: that a redactor reaches the end of a text, and what
+//! is found first in a stream.
 
 use daachorse::{CharwiseDoubleArrayAhoCorasick, DoubleArrayAhoCorasick, Match};
 use daachorse_uses::redactor::redact_source;

@@ -87,8 +87,8 @@ impl<V: Copy, A: Allocator + Copy> DoubleArrayAhoCorasick<V, A> {
     /// search. Tens of thousands make overlapping and leftmost searches slower (`docs/SPEED.md`).
     ///
     /// With a prefilter and no pattern of less than three bytes, searches in a slice also ask eight
-    /// buckets of patterns, unless the shortest has six bytes and there are fewer than 1,024 states.
-    /// The rows take at most 256 KiB and two bytes for each element, and the buckets 64 KiB.
+    /// buckets of patterns, unless the shortest has six bytes and there are fewer than 1,024
+    /// states. The rows take at most 256 KiB and two bytes for each element, and the buckets 64 KiB.
     pub fn accelerate(self, alloc: A) -> Result<Accelerated<V, A>, AccelerateError<Self>>
         ensures automaton { IfOk result (λ a. a.automaton ≡ self) }
         ensures covered { IfOk result HasRowsNear }

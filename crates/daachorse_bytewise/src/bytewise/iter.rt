@@ -4,8 +4,8 @@
 use crate::bytewise::states::{Leftmost, Standard, States};
 pub use daachorse_bytewise_states::patterns::PatternIterator;
 use daachorse_haystack::{haystack, source};
-use daachorse_lookup::prefixes::CommonPrefixes;
-use daachorse_lookup::values::Values;
+use daachorse_array::prefixes::CommonPrefixes;
+use daachorse_array::values::Values;
 use daachorse_prefilter::skipping::Skipping;
 use daachorse_search::ending_here::EndingHere;
 use daachorse_search::find::FindWalk;

@@ -3,21 +3,21 @@
 ghost use Rattle.std.specs.Prelude.{◌≡◌, ◌≢◌, ◌↔◌, IsTrue, []};
 ghost use Rattle.daachorse_model.specs.Folding.{as_read};
 ghost use Rattle.daachorse_model.specs.Units.{byte_width};
-ghost use Rattle.daachorse_lookup.specs.Lookups.{common_prefixes, longest_prefix};
+ghost use Rattle.daachorse_array.specs.Lookups.{common_prefixes, longest_prefix};
 ghost use Rattle.daachorse_bytewise.specs.Automata.{dictionary_of};
 
 use super::DoubleArrayAhoCorasick;
 use super::iter::{CommonPrefixIterator, ValueIterator};
 use daachorse_core::Match;
 use daachorse_haystack::haystack::Bytes;
-use daachorse_lookup::longest::longest_prefix;
-use daachorse_lookup::prefixes::CommonPrefixes;
-use daachorse_lookup::values::values_of;
+use daachorse_array::longest::longest_prefix;
+use daachorse_array::prefixes::CommonPrefixes;
+use daachorse_array::values::values_of;
 use std::alloc::Allocator;
 
 impl<V: Copy, A: Allocator> DoubleArrayAhoCorasick<V, A> {
-    /// Returns the values of the pattern that equals `text`, in order of registration; none if there
-    /// is none.
+    /// Returns the values of the pattern that equals `text`, in order of registration; none if
+    /// there is none.
     ///
     /// Here and below an automaton for [`MatchKind::LeftmostFirst`](daachorse_core::MatchKind) has
     /// no pattern that extends one registered earlier.

@@ -4,21 +4,21 @@ ghost use Rattle.std.specs.Prelude.{◌≡◌, ◌≢◌, ◌↔◌, IsTrue, []}
 ghost use Rattle.std.specs.Str.{chars};
 ghost use Rattle.daachorse_model.specs.Folding.{as_read};
 ghost use Rattle.daachorse_model.specs.Units.{char_width};
-ghost use Rattle.daachorse_lookup.specs.Lookups.{common_prefixes, longest_prefix};
+ghost use Rattle.daachorse_array.specs.Lookups.{common_prefixes, longest_prefix};
 ghost use Rattle.daachorse_charwise.specs.Automata.{dictionary_of};
 
 use super::CharwiseDoubleArrayAhoCorasick;
 use super::iter::{CommonPrefixIterator, ValueIterator};
 use daachorse_core::Match;
 use daachorse_haystack::text::Text;
-use daachorse_lookup::longest::longest_prefix;
-use daachorse_lookup::prefixes::CommonPrefixes;
-use daachorse_lookup::values::values_of;
+use daachorse_array::longest::longest_prefix;
+use daachorse_array::prefixes::CommonPrefixes;
+use daachorse_array::values::values_of;
 use std::alloc::Allocator;
 
 impl<V: Copy, A: Allocator> CharwiseDoubleArrayAhoCorasick<V, A> {
-    /// Returns the values of the pattern that equals `text`, in order of registration; none if there
-    /// is none.
+    /// Returns the values of the pattern that equals `text`, in order of registration; none if
+    /// there is none.
     ///
     /// Here and below an automaton for [`MatchKind::LeftmostFirst`](daachorse_core::MatchKind) has
     /// no pattern that extends one registered earlier.

@@ -2,7 +2,7 @@
 
 use super::States;
 use daachorse_core::{Output, ROOT_STATE_IDX};
-use daachorse_lookup::lookup::Lookup;
+use daachorse_array::lookup::Lookup;
 use std::alloc::Allocator;
 use std::num::NonZeroU32;
 

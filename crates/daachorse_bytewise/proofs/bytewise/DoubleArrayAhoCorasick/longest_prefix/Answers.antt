@@ -2,7 +2,7 @@
 use Rattle.std.proofs.Common.{ap, ◌∙◌}
 use Rattle.daachorse_model.specs.Folding.{as_read}
 use Rattle.daachorse_model.specs.Units.{byte_width}
-use Rattle.daachorse_lookup.specs.Lookups.{longest_prefix}
+use Rattle.daachorse_array.specs.Lookups.{longest_prefix}
 use Rattle.daachorse_bytewise_states.specs.Parts.{content}
 use Rattle.daachorse_bytewise.specs.Automata.{dictionary_of}
 use Rattle.daachorse_bytewise.proofs.bytewise.DoubleArrayAhoCorasick.longest_prefix.Goals as goal

@@ -3,7 +3,7 @@ use Rattle.std.proofs.Common.{ap, ◌∙◌}
 use Rattle.std.specs.Str.{chars}
 use Rattle.daachorse_model.specs.Folding.{as_read}
 use Rattle.daachorse_model.specs.Units.{char_width}
-use Rattle.daachorse_lookup.specs.Lookups.{common_prefixes}
+use Rattle.daachorse_array.specs.Lookups.{common_prefixes}
 use Rattle.daachorse_charwise_states.specs.Parts.{content}
 use Rattle.daachorse_charwise.specs.Automata.{dictionary_of}
 use Rattle.daachorse_charwise.proofs.charwise.CharwiseDoubleArrayAhoCorasick.common_prefixes.Goals as goal

@@ -15,8 +15,8 @@ use Rattle.daachorse_model.proofs.Paths.{walk-append}
 use Rattle.daachorse_model.proofs.Suffixes.{size-push}
 use Rattle.daachorse_array.specs.Machines.{Machine, content, own_from, own_next, own_step, values_at}
 use Rattle.daachorse_array.proofs.OutputLaws.{output_read}
-use Rattle.daachorse_lookup.specs.Descents.{MayRead, first_at, matches_left, matches_past, matches_to, own_values, values_in}
-use Rattle.daachorse_lookup.specs.Lookups.{common_prefixes, longest_prefix, prefix_match}
+use Rattle.daachorse_array.specs.Descents.{MayRead, first_at, matches_left, matches_past, matches_to, own_values, values_in}
+use Rattle.daachorse_array.specs.Lookups.{common_prefixes, longest_prefix, prefix_match}
 
 -- the values of the outputs that come first are the own values of the chain
 own-values : {V : Type 0} (outputs : List (Output V)) (s n p : ℕ) → (own_from outputs s n p).0 ≡ own_values n (list_from outputs s p)

@@ -1,8 +1,8 @@
 -- At the root all keys that begin the text are left.
 use Rattle.std.proofs.Common.{◌∙◌, Some, ap, sym}
-use Rattle.daachorse_lookup.specs.Descents.{matches_left, values_in}
-use Rattle.daachorse_lookup.proofs.DescentLaws.{prefixes-all}
-use Rattle.daachorse_lookup.proofs.prefixes.CommonPrefixes.new.Goals as goal
+use Rattle.daachorse_array.specs.Descents.{matches_left, values_in}
+use Rattle.daachorse_array.proofs.DescentLaws.{prefixes-all}
+use Rattle.daachorse_array.proofs.prefixes.CommonPrefixes.new.Goals as goal
 
 pub returns : goal.returns
 returns g c =

@@ -3,7 +3,7 @@
 ghost use Rattle.std.specs.Prelude.{◌≡◌, ◌<◌, ◌^◌};
 ghost use Rattle.daachorse_model.specs.Units.{size};
 ghost use Rattle.daachorse_array.specs.Machines.{content};
-ghost use Rattle.daachorse_lookup.specs.Lookups.{common_prefixes};
+ghost use Rattle.daachorse_array.specs.Lookups.{common_prefixes};
 
 use crate::lookup::Lookup;
 use crate::values::Values;
@@ -30,7 +30,7 @@ pub struct CommonPrefixes<'a, V: Copy, L: Lookup<V>, H: Haystack<L::Unit>> {
 impl<'a, V: Copy, L: Lookup<V>, H: Haystack<L::Unit>> Model for CommonPrefixes<'a, V, L, H> {
     ghost use Rattle.std.specs.Prelude.{List};
     ghost use Rattle.daachorse_model.specs.declared.Match.{Match};
-    ghost use Rattle.daachorse_lookup.specs.Descents.{MayGoOn, matches_left};
+    ghost use Rattle.daachorse_array.specs.Descents.{MayGoOn, matches_left};
 
     ghost Value = { List (Match V) };
 

@@ -3,9 +3,9 @@ use Rattle.std.proofs.Common.{◌≡◌, ◌+◌, ◌<◌, ◌^◌, Some, length
 use Rattle.std.specs.Option.{option_or}
 use Rattle.daachorse_model.specs.Units.{size}
 use Rattle.daachorse_array.specs.Machines.{content}
-use Rattle.daachorse_lookup.specs.Lookups.{longest_prefix}
-use Rattle.daachorse_lookup.proofs.DescentLaws.{best_past}
-use Rattle.daachorse_lookup.proofs.longest.longest_prefix.Given as goal
+use Rattle.daachorse_array.specs.Lookups.{longest_prefix}
+use Rattle.daachorse_array.proofs.DescentLaws.{best_past}
+use Rattle.daachorse_array.proofs.longest.longest_prefix.Given as goal
 
 abbrev pub invariant-units : goal.invariant-units
 invariant-units g l =

@@ -1,7 +1,7 @@
 -- The whole text leads to where what is left of it leads from the element that was come to.
 use Rattle.std.proofs.Common.{◌≡◌, ◌<◌, length}
 use Rattle.daachorse_model.specs.Paths.{walk}
-use Rattle.daachorse_lookup.proofs.values.element_of.Given as goal
+use Rattle.daachorse_array.proofs.values.element_of.Given as goal
 
 abbrev pub invariant-units : goal.invariant-units
 invariant-units g l =

@@ -2,7 +2,7 @@
 
 ghost use Rattle.std.specs.Prelude.{◌≡◌, ◌<◌, Some};
 ghost use Rattle.daachorse_array.specs.Machines.{content};
-ghost use Rattle.daachorse_lookup.specs.Descents.{IsWalk, values_in};
+ghost use Rattle.daachorse_array.specs.Descents.{IsWalk, values_in};
 
 use crate::lookup::Lookup;
 use daachorse_core::Output;
@@ -25,7 +25,7 @@ pub struct Values<'a, V: Copy> {
 impl<'a, V: Copy> Model for Values<'a, V> {
     ghost use Rattle.std.specs.Prelude.{List};
     ghost use Rattle.daachorse_core.specs.Outputs.{number, outputs_at};
-    ghost use Rattle.daachorse_lookup.specs.Descents.{MayRead, own_values};
+    ghost use Rattle.daachorse_array.specs.Descents.{MayRead, own_values};
 
     ghost Value = { List V };
 

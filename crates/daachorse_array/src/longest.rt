@@ -3,8 +3,8 @@
 ghost use Rattle.std.specs.Prelude.{◌≡◌, ◌<◌, ◌^◌, Some, slice_get};
 ghost use Rattle.daachorse_model.specs.Units.{size};
 ghost use Rattle.daachorse_array.specs.Machines.{content};
-ghost use Rattle.daachorse_lookup.specs.Descents.{first_at};
-ghost use Rattle.daachorse_lookup.specs.Lookups.{longest_prefix};
+ghost use Rattle.daachorse_array.specs.Descents.{first_at};
+ghost use Rattle.daachorse_array.specs.Lookups.{longest_prefix};
 
 use crate::lookup::Lookup;
 use crate::values::Values;

@@ -1,9 +1,9 @@
 -- The output that was read has the length of the pattern, so its value is the next.
 use Rattle.std.proofs.Common.{◌≡◌, ℕ, ◌<◌, ◌∷◌, ◌∙◌, ap, arith, rules, sym}
 use Rattle.daachorse_core.specs.Outputs.{number, outputs_at, parent_of}
-use Rattle.daachorse_lookup.specs.Descents.{own_values}
-use Rattle.daachorse_lookup.proofs.DescentLaws.{value-read}
-use Rattle.daachorse_lookup.proofs.values.ValuesIterator.next.Goals as goal
+use Rattle.daachorse_array.specs.Descents.{own_values}
+use Rattle.daachorse_array.proofs.DescentLaws.{value-read}
+use Rattle.daachorse_array.proofs.values.ValuesIterator.next.Goals as goal
 
 pub returns-clause-steps : goal.returns-clause-steps
 returns-clause-steps g c =

@@ -1,7 +1,7 @@
 -- What is left stays what it was; each round reads a unit.
 use Rattle.std.proofs.Common.{◌≡◌, length}
-use Rattle.daachorse_lookup.specs.Descents.{MayGoOn, matches_left}
-use Rattle.daachorse_lookup.proofs.prefixes.CommonPrefixesIterator.next.Given as goal
+use Rattle.daachorse_array.specs.Descents.{MayGoOn, matches_left}
+use Rattle.daachorse_array.proofs.prefixes.CommonPrefixesIterator.next.Given as goal
 
 abbrev pub invariant-units : goal.invariant-units
 invariant-units g l =

@@ -1,9 +1,9 @@
 -- The own values of the element that the text leads to are the text's.
 use Rattle.std.proofs.Common.{◌∙◌, ap, sym}
 use Rattle.daachorse_model.specs.Paths.{walk}
-use Rattle.daachorse_lookup.specs.Descents.{values_in}
-use Rattle.daachorse_lookup.proofs.DescentLaws.{content-walk}
-use Rattle.daachorse_lookup.proofs.values.values_of.Goals as goal
+use Rattle.daachorse_array.specs.Descents.{values_in}
+use Rattle.daachorse_array.proofs.DescentLaws.{content-walk}
+use Rattle.daachorse_array.proofs.values.values_of.Goals as goal
 
 pub returns-in-Some : goal.returns-in-Some
 returns-in-Some g c =

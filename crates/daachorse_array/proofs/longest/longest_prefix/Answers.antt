@@ -1,9 +1,9 @@
 -- A match further down is longer, and where there is no element none is.
 use Rattle.std.proofs.Common.{◌∙◌, Some, ap, arith, sym}
 use Rattle.std.specs.Option.{option_or}
-use Rattle.daachorse_lookup.specs.Descents.{first_at}
-use Rattle.daachorse_lookup.proofs.DescentLaws.{best_past, longest-all}
-use Rattle.daachorse_lookup.proofs.longest.longest_prefix.Goals as goal
+use Rattle.daachorse_array.specs.Descents.{first_at}
+use Rattle.daachorse_array.proofs.DescentLaws.{best_past, longest-all}
+use Rattle.daachorse_array.proofs.longest.longest_prefix.Goals as goal
 
 pub units-init : goal.units-init
 units-init g c =

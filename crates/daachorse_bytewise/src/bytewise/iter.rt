@@ -2,10 +2,10 @@
 //! walk through: the states themselves, or those with rows.
 
 use crate::bytewise::states::{Leftmost, Standard, States};
-pub use daachorse_bytewise_states::patterns::PatternIterator;
-use daachorse_haystack::{haystack, source};
 use daachorse_array::prefixes::CommonPrefixes;
 use daachorse_array::values::Values;
+pub use daachorse_bytewise_states::patterns::PatternIterator;
+use daachorse_haystack::{haystack, source};
 use daachorse_prefilter::skipping::Skipping;
 use daachorse_search::ending_here::EndingHere;
 use daachorse_search::find::FindWalk;

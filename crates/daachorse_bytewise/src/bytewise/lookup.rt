@@ -8,11 +8,11 @@ ghost use Rattle.daachorse_bytewise.specs.Automata.{dictionary_of};
 
 use super::DoubleArrayAhoCorasick;
 use super::iter::{CommonPrefixIterator, ValueIterator};
-use daachorse_core::Match;
-use daachorse_haystack::haystack::Bytes;
 use daachorse_array::longest::longest_prefix;
 use daachorse_array::prefixes::CommonPrefixes;
 use daachorse_array::values::values_of;
+use daachorse_core::Match;
+use daachorse_haystack::haystack::Bytes;
 use std::alloc::Allocator;
 
 impl<V: Copy, A: Allocator> DoubleArrayAhoCorasick<V, A> {

@@ -2,8 +2,8 @@
 
 use super::States;
 use daachorse_array::array::Array;
-use daachorse_core::{Output, ROOT_STATE_IDX};
 use daachorse_array::lookup::Lookup;
+use daachorse_core::{Output, ROOT_STATE_IDX};
 use std::alloc::Allocator;
 use std::num::NonZeroU32;
 

@@ -5,10 +5,10 @@ mod patterns;
 
 pub use crate::charwise::iter::patterns::PatternIterator;
 use crate::charwise::states::{Leftmost, Standard, States};
-pub use daachorse_haystack::decoding::{CharWithEndOffsetIterator, Decoded};
-use daachorse_haystack::text::Text;
 use daachorse_array::prefixes::CommonPrefixes;
 use daachorse_array::values::Values;
+pub use daachorse_haystack::decoding::{CharWithEndOffsetIterator, Decoded};
+use daachorse_haystack::text::Text;
 use daachorse_prefilter::skipping::Skipping;
 use daachorse_search::ending_here::EndingHere;
 use daachorse_search::find::FindWalk;

@@ -9,11 +9,11 @@ ghost use Rattle.daachorse_charwise.specs.Automata.{dictionary_of};
 
 use super::CharwiseDoubleArrayAhoCorasick;
 use super::iter::{CommonPrefixIterator, ValueIterator};
-use daachorse_core::Match;
-use daachorse_haystack::text::Text;
 use daachorse_array::longest::longest_prefix;
 use daachorse_array::prefixes::CommonPrefixes;
 use daachorse_array::values::values_of;
+use daachorse_core::Match;
+use daachorse_haystack::text::Text;
 use std::alloc::Allocator;
 
 impl<V: Copy, A: Allocator> CharwiseDoubleArrayAhoCorasick<V, A> {

@@ -1,8 +1,8 @@
 //! The states as lookups see them.
 
 use super::States;
-use daachorse_core::{Output, ROOT_STATE_IDX};
 use daachorse_array::lookup::Lookup;
+use daachorse_core::{Output, ROOT_STATE_IDX};
 use std::alloc::Allocator;
 use std::num::NonZeroU32;
 

@@ -1,3 +1,4 @@
 pub mod Built
+pub mod Finds
 pub mod Gives
 pub mod Pieces

@@ -3,13 +3,13 @@
 ghost use Rattle.std.specs.Prelude.{◌≡◌, None, IfSome};
 ghost use Rattle.daacfind_command.specs.Commands.{Ask, AskNothing, EndsBy, status_of, words_of};
 
-use crate::inputs::{Arguments, Inputs};
+use crate::inputs::Inputs;
 use crate::mode::Mode;
+use crate::program::Command;
 use crate::run::{RunError, run};
 use crate::sink::{Sink, SinkText};
-use std::alloc::{AllocError, Allocator, Global};
+use std::alloc::{Allocator, Global};
 use std::fmt::Write;
-use std::rt::Env;
 use thiserror::Error;
 
 /// Why a command failed. Its text is the line for standard error.
@@ -23,18 +23,19 @@ enum CommandError<'a> {
     Run(RunError),
 }
 
-/// Runs [`command`] with the program's arguments, and returns its status. Fails if reading them
-/// runs out of memory.
-pub fn run_program<R: Env, I: Inputs, S: Sink, E: Sink>(
-    env: &R,
-    alloc: Global,
-    files: &mut I,
-    out: &mut S,
-    err: &mut E,
-) -> Result<u8, AllocError> {
-    let arguments = Arguments::read(env, alloc)?;
-    let texts = arguments.texts(alloc)?;
-    Ok(command(alloc, &texts, files, out, err))
+/// The command of the program `daacfind`.
+pub struct Find;
+
+impl Command for Find {
+    fn run<I: Inputs, S: Sink, E: Sink>(
+        alloc: Global,
+        args: &[Option<&str>],
+        files: &mut I,
+        out: &mut S,
+        err: &mut E,
+    ) -> u8 {
+        command(alloc, args, files, out, err)
+    }
 }
 
 /// Runs the command, and returns its status: 0 if all was written, 2 after wrong usage, else 1.

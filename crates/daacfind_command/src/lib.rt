@@ -5,5 +5,6 @@
 pub mod command;
 pub mod inputs;
 pub mod mode;
+pub mod program;
 pub mod run;
 pub mod sink;

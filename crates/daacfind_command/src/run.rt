@@ -12,7 +12,7 @@ ghost use Rattle.daachorse_bytewise.specs.Building.{IsBuiltOf, IsBuildRefusal};
 ghost use Rattle.daachorse_bytewise.specs.Replaced.{AppendsBeginning};
 ghost use Rattle.daacfind_command.specs.declared.run.RunError.TheVariants.{Build, Write};
 ghost use Rattle.daacfind_command.specs.Modes.{found_by, kind_of_mode, text_of_mode};
-ghost use Rattle.daacfind_command.specs.Runs.{IfBuild, OnWrite, value_gives};
+ghost use Rattle.daacfind_command.specs.Runs.{IfBuild, IsWritten, OnWrite, value_gives};
 
 use crate::mode::Mode;
 use crate::sink::{Sink, SinkError, write_whole};
@@ -164,10 +164,7 @@ fn write_mode<S: Sink, A: Allocator + Copy>(
     out: &mut S,
 ) -> Result<(), SinkError>
     requires { kind_of automaton.now ≡ kind_of_mode mode }
-    ensures whole { OnOk result (Appends (S.taken out.old) (S.taken out.new) (match_text (found_by mode (dictionary_of automaton.now) (as_read automaton.now.folds haystack.now)))) }
-    ensures unfailed { OnOk result (S.failures out.new ≡ S.failures out.old) }
-    ensures beginning { OnErr result (AppendsBeginning (S.taken out.old) (S.taken out.new) (match_text (found_by mode (dictionary_of automaton.now) (as_read automaton.now.folds haystack.now)))) }
-    ensures failed { OnErr result (S.failures out.new ≡ S.failures out.old + 1) }
+    ensures { IsWritten (S.taken out.old) (S.taken out.new) (S.failures out.old) (S.failures out.new) result (match_text (found_by mode (dictionary_of automaton.now) (as_read automaton.now.folds haystack.now))) }
 {
     match mode {
         Mode::Overlapping => write_matches(automaton.find_overlapping_iter(haystack), out),
@@ -186,10 +183,7 @@ fn write_mode_over_rows<S: Sink, A: Allocator + Copy>(
     out: &mut S,
 ) -> Result<(), SinkError>
     requires { kind_of searcher.now.automaton ≡ kind_of_mode mode }
-    ensures whole { OnOk result (Appends (S.taken out.old) (S.taken out.new) (match_text (found_by mode (dictionary_of searcher.now.automaton) (as_read searcher.now.automaton.folds haystack.now)))) }
-    ensures unfailed { OnOk result (S.failures out.new ≡ S.failures out.old) }
-    ensures beginning { OnErr result (AppendsBeginning (S.taken out.old) (S.taken out.new) (match_text (found_by mode (dictionary_of searcher.now.automaton) (as_read searcher.now.automaton.folds haystack.now)))) }
-    ensures failed { OnErr result (S.failures out.new ≡ S.failures out.old + 1) }
+    ensures { IsWritten (S.taken out.old) (S.taken out.new) (S.failures out.old) (S.failures out.new) result (match_text (found_by mode (dictionary_of searcher.now.automaton) (as_read searcher.now.automaton.folds haystack.now))) }
 {
     match mode {
         Mode::Overlapping => write_matches(searcher.find_overlapping_iter(haystack), out),

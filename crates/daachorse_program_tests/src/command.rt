@@ -4,9 +4,10 @@
 ghost use Rattle.std.specs.Prelude.{None};
 
 use crate::expect;
-use daacfind_command::command::{command, run_program};
+use daacfind_command::command::{Find, command};
 use daacfind_command::inputs::{Arguments, Inputs};
 use daacfind_command::mode::Mode;
+use daacfind_command::program::run_in;
 use daacfind_command::run::{RunError, run};
 use daacfind_command::sink::WriterSink;
 use daachorse::errors::{DaachorseError, Limit};
@@ -301,7 +302,7 @@ fn ends_so(alloc: Global, row: &Row) -> Result<bool, AllocError> {
     let mut out = WriterSink::new(Vec::new(alloc));
     let mut err = WriterSink::new(Vec::new(alloc));
     let words = Words { words: row.words };
-    let status = run_program(&words, alloc, &mut files, &mut out, &mut err)?;
+    let status = run_in::<Find, _, _, _, _>(&words, alloc, &mut files, &mut out, &mut err)?;
     Ok(
         status == row.status
             && out.writer().as_slice() == row.written

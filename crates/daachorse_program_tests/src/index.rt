@@ -2,8 +2,9 @@
 
 use crate::command::{Memory, Words};
 use crate::expect;
+use daacfind_command::program::run_in;
 use daacfind_command::sink::WriterSink;
-use daacindex_command::command::run_program;
+use daacindex_command::command::Index;
 use std::alloc::{AllocError, Global};
 use std::test::Fail;
 
@@ -23,7 +24,8 @@ fn end_of(alloc: Global, automaton: &[u8], words: &[&[u8]]) -> Result<End, Alloc
     };
     let mut out = WriterSink::new(Vec::new(alloc));
     let mut err = WriterSink::new(Vec::new(alloc));
-    let status = run_program(&Words { words }, alloc, &mut files, &mut out, &mut err)?;
+    let words = Words { words };
+    let status = run_in::<Index, _, _, _, _>(&words, alloc, &mut files, &mut out, &mut err)?;
     let written = Vec::from_slice(alloc, out.writer())?;
     let told = Vec::from_slice(alloc, err.writer())?;
     Ok((status, written, told, files.reads))

@@ -1,12 +1,12 @@
 //! The command: from arguments to a status, and to a line on standard error if it fails.
 
 use crate::written::{IndexError, run_written, write};
-use daacfind_command::inputs::{Arguments, Inputs};
+use daacfind_command::inputs::Inputs;
 use daacfind_command::mode::Mode;
+use daacfind_command::program::Command;
 use daacfind_command::sink::{Sink, SinkText};
-use std::alloc::{AllocError, Allocator, Global};
+use std::alloc::{Allocator, Global};
 use std::fmt::Write;
-use std::rt::Env;
 use thiserror::Error;
 
 /// Why a command failed. Its text is the line for standard error.
@@ -20,40 +20,31 @@ enum CommandError<'a> {
     Index(#[from] IndexError),
 }
 
-/// Runs [`command`] with the program's arguments, and returns its status. Fails if reading them
-/// runs out of memory.
-pub fn run_program<R: Env, I: Inputs, S: Sink, E: Sink>(
-    env: &R,
-    alloc: Global,
-    files: &mut I,
-    out: &mut S,
-    err: &mut E,
-) -> Result<u8, AllocError> {
-    let arguments = Arguments::read(env, alloc)?;
-    let texts = arguments.texts(alloc)?;
-    Ok(command(alloc, &texts, files, out, err))
-}
-
-/// Runs the command, and returns its status: 0 if all was written, 2 after wrong usage, else 1.
+/// The command of the program `daacindex`. Its status is 0 if all was written, 2 after wrong usage,
+/// else 1.
 ///
 /// The arguments are `write`, a mode and a file of patterns, one a line; or `search`, a mode, a
-/// file with a written automaton, and a haystack. An argument that is not UTF-8 is `None`. The
-/// automaton or the matches go to `out`. If it fails, a line on `err` gives the cause; after wrong
-/// usage nothing was read. A failure of `err` is ignored.
-pub fn command<A: Allocator + Copy, I: Inputs, S: Sink, E: Sink>(
-    alloc: A,
-    args: &[Option<&str>],
-    files: &mut I,
-    out: &mut S,
-    err: &mut E,
-) -> u8 {
-    match attempt(alloc, args, files, out) {
-        Ok(()) => 0,
-        Err(error) => {
-            let _ = writeln!(SinkText { sink: err }, "{error}");
-            match error {
-                CommandError::Usage => 2,
-                CommandError::Read(_) | CommandError::Index(_) => 1,
+/// file with a written automaton, and a haystack. The automaton or the matches go to `out`. If it
+/// fails, a line on `err` gives the cause; after wrong usage nothing was read. A failure of `err`
+/// is ignored.
+pub struct Index;
+
+impl Command for Index {
+    fn run<I: Inputs, S: Sink, E: Sink>(
+        alloc: Global,
+        args: &[Option<&str>],
+        files: &mut I,
+        out: &mut S,
+        err: &mut E,
+    ) -> u8 {
+        match attempt(alloc, args, files, out) {
+            Ok(()) => 0,
+            Err(error) => {
+                let _ = writeln!(SinkText { sink: err }, "{error}");
+                match error {
+                    CommandError::Usage => 2,
+                    CommandError::Read(_) | CommandError::Index(_) => 1,
+                }
             }
         }
     }

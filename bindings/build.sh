@@ -3,8 +3,9 @@
 #
 #     bindings/build.sh [--after-gate] [FOLDER]
 #
-# The output goes to FOLDER, else to bindings/out: libdaachorse.so, the example in C, a test in C
-# over the table bindings/rows, which rows.py makes, and one that refuses each allocation in turn.
+# The output goes to FOLDER, else to bindings/out: libdaachorse.so.5 with the link libdaachorse.so,
+# the example in C, a test in C over the table bindings/rows, which rows.py makes, one that refuses
+# each allocation in turn, and one in which threads search an automaton at once.
 #
 # It needs the Rattle kit (its command rt), which first proves what is not proved yet, and a C
 # compiler, CC or cc, with a linker that has --wrap. Without valgrind, python3 or a cargo that runs,
@@ -45,7 +46,13 @@ fi
 library="$crate/out/libdaachorse_c.a"
 # The kit's archive has the calls of malloc, realloc and free.
 heap="$kit/c/liblibc_c.a"
-"$compiler" -shared -o "$out/libdaachorse.so" -Wl,--whole-archive "$library" -Wl,--no-whole-archive "$heap"
+"$compiler" -shared -o "$out/libdaachorse.so.5" -Wl,-soname,libdaachorse.so.5 -Wl,--version-script="$here/c/exports" \
+    -Wl,--whole-archive "$library" -Wl,--no-whole-archive "$heap"
+ln -sf libdaachorse.so.5 "$out/libdaachorse.so"
+if command -v nm >/dev/null && nm -D --defined-only "$out/libdaachorse.so" | grep -v ' daachorse_'; then
+    echo "build.sh: the library exports more than its own names" >&2
+    exit 1
+fi
 
 compile() {
     name=$1
@@ -55,6 +62,7 @@ compile() {
 compile example
 compile rows
 compile refusals -Wl,--wrap=malloc,--wrap=realloc
+compile threads -pthread
 
 "$out/example" > "$out/example.stdout"
 diff "$here/c/example.stdout" "$out/example.stdout"
@@ -63,12 +71,15 @@ echo "build.sh: the example in C wrote what it should"
 echo "build.sh: in C each search and each listing wrote what its row says"
 "$out/refusals"
 echo "build.sh: each request for memory may be refused"
+"$out/threads" 200
+echo "build.sh: threads searched shared automata at once"
 
 if valgrind -q "$out/trial" >/dev/null 2>&1; then
     for program in example rows refusals; do
         valgrind -q --leak-check=full --show-leak-kinds=all --errors-for-leak-kinds=all --error-exitcode=1 "$out/$program" < "$here/rows" >/dev/null
     done
-    echo "build.sh: valgrind found no bad access and no leak"
+    valgrind -q --tool=helgrind --error-exitcode=1 "$out/threads" 2 >/dev/null
+    echo "build.sh: valgrind found no bad access, no leak and no race"
 else
     echo "build.sh: there is no valgrind that runs, so nothing was run under it"
 fi

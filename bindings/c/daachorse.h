@@ -9,8 +9,10 @@
  * - A handle is not copied, and its field is neither read nor written.
  * - No pointer is null, even if its length is 0, and each length is that of what its pointer points
  *   to. Memory that a call writes to is initialised, and overlaps nothing else passed to the call.
- * - A handle is used by one call at a time. Calls with different handles may run at once. A handle
- *   may move to another thread, if a lock, a join or the like orders its calls after earlier ones.
+ * - A handle is used by one call at a time. Calls with different handles may run at once, also if
+ *   the handles share an automaton (daachorse_share): a thread each searches with a handle of its
+ *   own. A handle may move to another thread, if a lock, a join or the like orders its calls after
+ *   earlier ones.
  * - Memory comes from malloc and realloc, and goes back to free. They are of one allocator, which
  *   aligns a block to each power of two up to 16 that divides its size. No call is made in a signal
  *   handler, or in the forked child of a process with threads.
@@ -24,11 +26,15 @@
 #include <stddef.h>
 #include <stdint.h>
 
+/* The version of the Rust crate whose searches these are. */
+#define DAACHORSE_VERSION "5.1.0"
+
 #ifdef __cplusplus
 extern "C" {
 #endif
 
-/* Nothing, or an automaton, which daachorse_free frees. */
+/* Nothing, or an automaton, alone or shared with other handles. daachorse_free empties it, and frees
+ * an automaton that no other handle has. */
 typedef struct daachorse {
     void *opaque;
 } daachorse;
@@ -68,6 +74,27 @@ enum daachorse_answer {
     DAACHORSE_STREAM_TOO_LONG = 13   /* an offset or the number of matches would pass size_t */
 };
 
+/* What an answer means, as text. */
+static inline const char *daachorse_answer_text(uint32_t answer) {
+    switch (answer) {
+    case DAACHORSE_DONE: return "done";
+    case DAACHORSE_OUT_OF_MEMORY: return "an allocation failed";
+    case DAACHORSE_EMPTY_HANDLE: return "the handle has no automaton";
+    case DAACHORSE_UNKNOWN_KIND: return "no kind has this number";
+    case DAACHORSE_WRONG_KIND: return "the search does not serve automata of this kind";
+    case DAACHORSE_WRONG_PATTERNS: return "the ends of the patterns fall, or pass their bytes";
+    case DAACHORSE_PATTERN_TOO_LONG: return "a pattern has more than 4294967295 bytes";
+    case DAACHORSE_TOO_MANY_STATES: return "the patterns have too many prefixes";
+    case DAACHORSE_TOO_MANY_PATTERNS: return "there are too many patterns";
+    case DAACHORSE_TOO_MANY_ELEMENTS: return "the double array would have too many elements";
+    case DAACHORSE_INVALID_AUTOMATON: return "the bytes do not begin with an automaton";
+    case DAACHORSE_NO_ROOM: return "the output is longer than the room for it";
+    case DAACHORSE_NO_STREAM: return "no stream was begun";
+    case DAACHORSE_STREAM_TOO_LONG: return "an offset or the number of matches would pass 64 bits";
+    default: return "no answer of this library";
+    }
+}
+
 /* Fills the handle with an automaton of this kind, and frees what it held. Pattern i, counted from
  * 0, stands in bytes from ends[i - 1], or 0 for the first, up to ends[i], exclusive, and has the
  * value values[i]. Patterns may be empty, and equal ones are all kept. use_prefilter lets searches
@@ -81,6 +108,21 @@ enum daachorse_answer {
 uint32_t daachorse_build(daachorse *handle, uint32_t kind, bool use_prefilter, bool ascii_case_insensitive,
         const uint8_t *bytes, size_t bytes_len, const size_t *ends, size_t ends_len, const uint32_t *values,
         size_t values_len);
+
+/* Empties the handle, and frees the automaton if no other handle has it. */
+void daachorse_free(daachorse *handle);
+
+/* Fills other with the automaton of the handle, and frees what it held. Nothing is copied: a few
+ * words are allocated. Each handle has a stream of its own, and other has none at first. Returns
+ * DAACHORSE_DONE or, with other unchanged, DAACHORSE_EMPTY_HANDLE or DAACHORSE_OUT_OF_MEMORY. */
+uint32_t daachorse_share(daachorse *handle, daachorse *other);
+
+/* Fills other with a copy of the automaton that has rows of the states near its root, if there is room
+ * for them, and frees what it held. Searches of a whole haystack find the same, faster if patterns
+ * are few and short. The rows take at most 319,484 bytes, and 2 for each element of the automaton.
+ * Returns DAACHORSE_DONE or, with other unchanged, DAACHORSE_EMPTY_HANDLE or
+ * DAACHORSE_OUT_OF_MEMORY. */
+uint32_t daachorse_accelerate(daachorse *handle, daachorse *other);
 
 /* The searches write their first matches to out, as many as there is room for, and their number to
  * written. If that is out_len, there may be more: call again with more room. They allocate nothing.
@@ -111,13 +153,23 @@ uint32_t daachorse_is_match(daachorse *handle, const uint8_t *haystack, size_t h
 
 /* A stream is a haystack that comes in pieces. Matches may cross pieces, and offsets count from the
  * beginning of the stream. A handle has at most one, which daachorse_build, daachorse_read and
- * daachorse_free end and the searches leave as it is. Pieces need not be kept after the call. */
+ * daachorse_free end and the searches leave as it is: for more streams at once share the automaton
+ * with a handle each. Pieces need not be kept after the call. */
 
 /* Begins a stream, for the matches of daachorse_find_overlapping if overlapping is true, else
  * for those of daachorse_find, and ends a previous one. It allocates nothing. Returns
  * DAACHORSE_DONE or, with the handle unchanged, DAACHORSE_EMPTY_HANDLE, or DAACHORSE_WRONG_KIND
  * if the automaton is not standard. */
 uint32_t daachorse_begin(daachorse *handle, bool overlapping);
+
+/* Fills other with the automaton of the handle, as daachorse_share does, and begins a stream there. If
+ * it is refused, other is unchanged or empty. */
+static inline uint32_t daachorse_stream(daachorse *handle, bool overlapping, daachorse *other) {
+    uint32_t answer = daachorse_share(handle, other);
+    if (answer == DAACHORSE_DONE && (answer = daachorse_begin(other, overlapping)) != DAACHORSE_DONE)
+        daachorse_free(other);
+    return answer;
+}
 
 /* Feeds bytes to the stream, as few as one, and writes its next matches to out, the number of
  * bytes consumed to taken, and that of matches to written. If written is less than out_len, all
@@ -151,9 +203,6 @@ uint32_t daachorse_list(daachorse *handle, uint8_t *bytes, size_t bytes_len, siz
  * automaton's length to taken. The bytes may be untrusted. Returns DAACHORSE_DONE or, with the
  * handle unchanged and 0 in taken, DAACHORSE_OUT_OF_MEMORY or DAACHORSE_INVALID_AUTOMATON. */
 uint32_t daachorse_read(daachorse *handle, const uint8_t *bytes, size_t bytes_len, size_t *taken);
-
-/* Frees what the handle holds, and leaves it empty. */
-void daachorse_free(daachorse *handle);
 
 #ifdef __cplusplus
 }

@@ -1,4 +1,4 @@
-/* Refuses each allocation of a build, a write, a listing and a read in turn. The call must return
+/* Refuses each allocation of a build, a write, a listing, a share and a read in turn. The call must return
  * DAACHORSE_OUT_OF_MEMORY and leak nothing. Link with -Wl,--wrap=malloc,--wrap=realloc. */
 #include "daachorse.h"
 
@@ -56,6 +56,13 @@ static uint32_t read_form(daachorse *handle) {
     return daachorse_read(handle, form, form_len, &taken);
 }
 
+/* Holds the automaton that is shared. */
+static daachorse full = DAACHORSE_EMPTY;
+
+static uint32_t share(daachorse *handle) {
+    return daachorse_share(&full, handle);
+}
+
 static uint32_t list_patterns(daachorse *handle) {
     uint8_t room[10] = {7};
     size_t room_for_ends[4] = {7}, size = 7, count = 7;
@@ -89,6 +96,10 @@ int main(void) {
     refuse_each("build for any case", build_for_any_case, &handle);
     refuse_each("write", write_form, &handle);
     refuse_each("list", list_patterns, &handle);
+    need(build_for_any_case(&full) == DAACHORSE_DONE, "build");
+    refuse_each("share", share, &again);
+    daachorse_free(&full);
+    need(daachorse_is_match(&again, (const uint8_t *)"xCdx", 4, &found) == DAACHORSE_DONE && found, "a shared one");
     refuse_each("read", read_form, &again);
     need(daachorse_is_match(&again, (const uint8_t *)"xCdx", 4, &found) == DAACHORSE_DONE && found, "is_match");
     daachorse_free(&handle);

@@ -69,6 +69,8 @@ _ROOM = [ctypes.POINTER(ctypes.c_uint8), ctypes.c_size_t]
 _ENDS_AND_VALUES = [_SIZE, ctypes.c_size_t, ctypes.POINTER(ctypes.c_uint32), ctypes.c_size_t]
 _EXPORTS = {
     "daachorse_build": [_IN_HANDLE, ctypes.c_uint32, ctypes.c_bool, ctypes.c_bool, *_BYTES, *_ENDS_AND_VALUES],
+    "daachorse_share": [_IN_HANDLE, _IN_HANDLE],
+    "daachorse_accelerate": [_IN_HANDLE, _IN_HANDLE],
     "daachorse_find": _SEARCH,
     "daachorse_find_overlapping": _SEARCH,
     "daachorse_find_overlapping_no_suffix": _SEARCH,
@@ -108,8 +110,8 @@ class Automaton:
 
     Pattern i, counted from 0, has the value values[i], below 2 ** 32, or i if no values are given.
     With ascii_case_insensitive, A to Z are read as a to z in patterns and haystacks. The kind selects
-    the searches that may be called. Several threads may share it; its calls wait for one another.
-    Raises Refused if the library refuses the patterns.
+    the searches that may be called. Several threads may share it, and search at once. Raises Refused
+    if the library refuses the patterns.
     """
 
     def __init__(self, patterns, values=None, kind=Kind.STANDARD, use_prefilter=True, ascii_case_insensitive=False):
@@ -119,8 +121,7 @@ class Automaton:
             raise ValueError("a value is not below 2 ** 32")
         ends = list(itertools.accumulate(map(len, patterns)))
         joined = b"".join(patterns)
-        self._begin()
-        self._call(
+        self._begin(
             _library.daachorse_build,
             kind,
             use_prefilter,
@@ -140,22 +141,33 @@ class Automaton:
         The bytes may be untrusted. Raises Refused if no automaton begins them.
         """
         automaton = cls.__new__(cls)
-        automaton._begin()
         taken = ctypes.c_size_t()
-        automaton._call(_library.daachorse_read, written, len(written), taken)
+        automaton._begin(_library.daachorse_read, written, len(written), taken)
         return automaton, written[taken.value :]
+
+    def accelerate(self):
+        """Returns a copy that finds the same, faster if patterns are few and short.
+
+        It has rows of the states near the root, if there is room for them. Streams are no faster.
+        """
+        copy = type(self).__new__(type(self))
+        handle = self._take()
+        try:
+            copy._begin(lambda other: _library.daachorse_accelerate(handle, other))
+        finally:
+            self._give_back(handle)
+        return copy
 
     def write(self):
         """Returns the automaton as bytes, for `read`."""
-        with self._lock:
-            room = (ctypes.c_uint8 * 0)()
-            size = ctypes.c_size_t()
-            answer = _library.daachorse_write(self._handle, room, 0, size)
-            if answer == Refusal.NO_ROOM:
-                room = (ctypes.c_uint8 * size.value)()
-                answer = _library.daachorse_write(self._handle, room, size.value, size)
-            _need_done(answer)
-            return bytes(room)
+        room = (ctypes.c_uint8 * 0)()
+        size = ctypes.c_size_t()
+        answer = self._ask(_library.daachorse_write, room, 0, size)
+        if answer == Refusal.NO_ROOM:
+            room = (ctypes.c_uint8 * size.value)()
+            answer = self._ask(_library.daachorse_write, room, size.value, size)
+        _need_done(answer)
+        return bytes(room)
 
     def patterns(self):
         """Returns a list of the patterns of the automaton, each with its value.
@@ -164,11 +176,10 @@ class Automaton:
         LEFTMOST_FIRST holds no pattern that extends one registered before it, and one that ignores
         ASCII case holds a to z in place of A to Z.
         """
-        with self._lock:
-            answer, size, count, listed = self._list(0, 0)
-            if answer == Refusal.NO_ROOM:
-                answer, size, count, listed = self._list(size, count)
-            _need_done(answer)
+        answer, size, count, listed = self._list(0, 0)
+        if answer == Refusal.NO_ROOM:
+            answer, size, count, listed = self._list(size, count)
+        _need_done(answer)
         joined, ends, values = bytes(listed[0]), list(listed[1]), list(listed[2])
         return [(joined[start:end], value) for start, end, value in zip([0, *ends], ends, values)]
 
@@ -195,13 +206,16 @@ class Automaton:
         return found.value
 
     def stream(self, overlapping=False):
-        """Begins a stream, for all matches or for those of `find`, and ends a previous one."""
+        """Begins a stream, for all matches or for those of `find`. There may be any number at once."""
         return Stream(self, overlapping)
 
     def close(self):
-        """Frees the memory. A later call raises Refused."""
+        """Frees the memory, but for what streams use. A later call raises Refused."""
         with self._lock:
-            _library.daachorse_free(self._handle)
+            self._is_open = False
+            while self._idle:
+                _library.daachorse_free(self._idle.pop())
+            _library.daachorse_free(self._source)
 
     def __enter__(self):
         return self
@@ -210,24 +224,54 @@ class Automaton:
         self.close()
 
     def __del__(self):
-        if hasattr(self, "_handle"):
+        if hasattr(self, "_source"):
             self.close()
 
-    def _begin(self):
+    def _begin(self, export, *arguments):
+        """Fills the source, from which each call that finds no idle handle shares another."""
         self._lock = threading.Lock()
-        self._handle = _Handle()
-        self._stream = None
+        self._source = _Handle()
+        self._idle = []
+        self._is_open = True
+        _need_done(export(self._source, *arguments))
+
+    def _share(self):
+        """Returns another handle of the automaton."""
+        handle = _Handle()
+        with self._lock:
+            _need_done(_library.daachorse_share(self._source, handle))
+        return handle
+
+    def _take(self):
+        """Returns a handle that no other call is using."""
+        with self._lock:
+            if self._idle:
+                return self._idle.pop()
+        return self._share()
+
+    def _give_back(self, handle):
+        with self._lock:
+            if self._is_open:
+                self._idle.append(handle)
+                return
+        _library.daachorse_free(handle)
+
+    def _ask(self, export, *arguments):
+        handle = self._take()
+        try:
+            return export(handle, *arguments)
+        finally:
+            self._give_back(handle)
 
     def _call(self, export, *arguments):
-        with self._lock:
-            _need_done(export(self._handle, *arguments))
+        _need_done(self._ask(export, *arguments))
 
     def _list(self, size, count):
         """Returns the status of a listing, its numbers of bytes and patterns, and its arrays."""
         room = (ctypes.c_uint8 * size)(), (ctypes.c_size_t * count)(), (ctypes.c_uint32 * count)()
         size, count = ctypes.c_size_t(), ctypes.c_size_t()
         words = [word for it in room for word in (it, len(it))]
-        answer = _library.daachorse_list(self._handle, *words, size, count)
+        answer = self._ask(_library.daachorse_list, *words, size, count)
         return answer, size.value, count.value, room
 
     def _search(self, export, haystack):
@@ -245,27 +289,27 @@ class Automaton:
 
 
 class Stream:
-    """A stream: a haystack that comes in pieces. An automaton has one at a time."""
+    """A stream: a haystack that comes in pieces. It may outlive its automaton."""
 
     def __init__(self, automaton, overlapping):
-        self._automaton = automaton
-        with automaton._lock:
-            _need_done(_library.daachorse_begin(automaton._handle, overlapping))
-            automaton._stream = self
+        self._lock = threading.Lock()
+        self._handle = automaton._share()
+        _need_done(_library.daachorse_begin(self._handle, overlapping))
+
+    def __del__(self):
+        if hasattr(self, "_handle"):
+            _library.daachorse_free(self._handle)
 
     def feed(self, piece):
         """Yields the matches that end in the next piece, and in the first also the empty ones at 0.
 
-        Offsets count from the beginning of the stream. Raises Refused if a later stream was begun.
+        Offsets count from the beginning of the stream.
         """
-        automaton = self._automaton
         piece, matches, room = bytes(piece), [], (_Match * 64)()
         taken, written = ctypes.c_size_t(), ctypes.c_size_t(len(room))
-        with automaton._lock:
-            if automaton._stream is not self:
-                raise Refused(Refusal.NO_STREAM)
+        with self._lock:
             while written.value == len(room):
-                _need_done(_library.daachorse_consume(automaton._handle, piece, len(piece), room, len(room), taken, written))
+                _need_done(_library.daachorse_consume(self._handle, piece, len(piece), room, len(room), taken, written))
                 piece = piece[taken.value :]
                 matches += (Match(found.start, found.end, found.value) for found in itertools.islice(room, written.value))
         return iter(matches)

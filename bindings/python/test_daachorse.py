@@ -66,8 +66,9 @@ class AutomatonTest(unittest.TestCase):
                 with self.subTest(name=name, patterns=patterns, haystack=haystack, **settings):
                     with Automaton(patterns, **settings) as automaton:
                         self.assertEqual(list(getattr(automaton, name)(haystack)), matches)
-                        with Automaton.read(automaton.write())[0] as again:
+                        for again in (Automaton.read(automaton.write())[0], automaton.accelerate()):
                             self.assertEqual(list(getattr(again, name)(haystack)), matches)
+                            again.close()
 
     def test_rows_in_pieces(self):
         for name, kind, any_case, patterns, haystack, matches in [*ROWS, *table()]:
@@ -98,9 +99,10 @@ class AutomatonTest(unittest.TestCase):
             found = [match for _ in range(2) for match in stream.feed(b"a" * 500)]
             self.assertEqual(found, list(automaton.find_overlapping(b"a" * 1000)))
             another = automaton.stream()
-            self.refused(Refusal.NO_STREAM, lambda: stream.feed(b"a"))
             self.assertEqual(list(another.feed(b"a")), [(0, 1, 0)])
-        self.refused(Refusal.EMPTY_HANDLE, lambda: another.feed(b"a"))
+            self.assertEqual(list(stream.feed(b"xa")), [(1001, 1002, 0)])
+        self.assertEqual(list(another.feed(b"a")), [(1, 2, 0)])
+        self.refused(Refusal.EMPTY_HANDLE, automaton.stream)
         with Automaton(PATTERNS, kind=Kind.LEFTMOST_FIRST) as automaton:
             self.refused(Refusal.WRONG_KIND, automaton.stream)
 

@@ -4,7 +4,7 @@
 //! use daachorse_c::{Automaton, Kind};
 //!
 //! let patterns: [&[u8]; 4] = [b"ab", b"abcd", b"bc", b"cd"];
-//! let mut automaton = Automaton::new(Kind::Standard, true, patterns)?;
+//! let automaton = Automaton::new(Kind::Standard, true, patterns)?;
 //! let values: Vec<u32> = automaton.find_overlapping(b"abcd")?.map(|found| found.value).collect();
 //! assert_eq!(values, [0, 2, 1, 3]);
 //! # Ok::<(), daachorse_c::Refusal>(())
@@ -12,6 +12,8 @@
 
 use std::ffi::c_void;
 use std::fmt;
+use std::ptr;
+use std::sync::{Arc, Mutex, MutexGuard, PoisonError};
 use std::vec;
 
 /// A match: the pattern with this value stands in the haystack from `start` to `end`, in bytes.
@@ -37,31 +39,106 @@ pub enum Kind {
     LeftmostFirst = 2,
 }
 
-/// Why the library refused a call: the number that it returned. The header `daachorse.h` names all.
+/// Why the library refused a call.
 #[derive(Clone, Copy, Debug, PartialEq, Eq)]
-pub struct Refusal(pub u32);
+#[repr(u32)]
+pub enum Refusal {
+    /// An allocation failed.
+    OutOfMemory = 1,
+    /// The handle has no automaton. No call of this crate uses one.
+    EmptyHandle = 2,
+    /// No kind has the number. This crate passes none but those of [`Kind`].
+    UnknownKind = 3,
+    /// The search does not serve automata of this kind.
+    WrongKind = 4,
+    /// The ends of patterns fall, or pass their bytes. This crate passes none such.
+    WrongPatterns = 5,
+    /// A pattern has more than 4,294,967,295 bytes.
+    PatternTooLong = 6,
+    /// The patterns have more than 4,294,967,295 distinct prefixes.
+    TooManyStates = 7,
+    /// There are more than 16,777,215 patterns.
+    TooManyPatterns = 8,
+    /// The double array would have more than 4,294,967,295 elements.
+    TooManyElements = 9,
+    /// The bytes do not begin with an automaton.
+    InvalidAutomaton = 10,
+    /// The output is longer than the room for it. This crate makes more.
+    NoRoom = 11,
+    /// No stream was begun. This crate begins one for each [`Stream`].
+    NoStream = 12,
+    /// An offset in a stream, or the number of its matches, would pass 64 bits.
+    StreamTooLong = 13,
+}
 
 impl Refusal {
-    /// An allocation failed.
-    pub const OUT_OF_MEMORY: Refusal = Refusal(1);
-    /// The search does not serve automata of this kind.
-    pub const WRONG_KIND: Refusal = Refusal(4);
-    /// The bytes do not begin with an automaton.
-    pub const INVALID_AUTOMATON: Refusal = Refusal(10);
-    const NO_ROOM: u32 = 11;
+    const ALL: [Refusal; 13] = [
+        Refusal::OutOfMemory,
+        Refusal::EmptyHandle,
+        Refusal::UnknownKind,
+        Refusal::WrongKind,
+        Refusal::WrongPatterns,
+        Refusal::PatternTooLong,
+        Refusal::TooManyStates,
+        Refusal::TooManyPatterns,
+        Refusal::TooManyElements,
+        Refusal::InvalidAutomaton,
+        Refusal::NoRoom,
+        Refusal::NoStream,
+        Refusal::StreamTooLong,
+    ];
 }
 
 impl fmt::Display for Refusal {
     fn fmt(&self, f: &mut fmt::Formatter<'_>) -> fmt::Result {
-        write!(f, "the library refused the call by the number {}", self.0)
+        f.write_str(match self {
+            Refusal::OutOfMemory => "an allocation failed",
+            Refusal::EmptyHandle => "the handle has no automaton",
+            Refusal::UnknownKind => "no kind has this number",
+            Refusal::WrongKind => "the search does not serve automata of this kind",
+            Refusal::WrongPatterns => "the ends of the patterns fall, or pass their bytes",
+            Refusal::PatternTooLong => "a pattern has more than 4294967295 bytes",
+            Refusal::TooManyStates => "the patterns have too many prefixes",
+            Refusal::TooManyPatterns => "there are too many patterns",
+            Refusal::TooManyElements => "the double array would have too many elements",
+            Refusal::InvalidAutomaton => "the bytes do not begin with an automaton",
+            Refusal::NoRoom => "the output is longer than the room for it",
+            Refusal::NoStream => "no stream was begun",
+            Refusal::StreamTooLong => "an offset or the number of matches would pass 64 bits",
+        })
     }
 }
 
 impl std::error::Error for Refusal {}
 
+/// Nothing, or an automaton, alone or shared with other handles.
 #[repr(C)]
 struct Handle {
     opaque: *mut c_void,
+}
+
+// The library proves that a handle may move to another thread. Each call takes it by `&mut`.
+unsafe impl Send for Handle {}
+
+impl Handle {
+    fn empty() -> Handle {
+        Handle {
+            opaque: ptr::null_mut(),
+        }
+    }
+
+    /// Another handle of the same automaton.
+    fn share(&mut self) -> Result<Handle, Refusal> {
+        let mut other = Handle::empty();
+        done(unsafe { daachorse_share(self, &mut other) })?;
+        Ok(other)
+    }
+}
+
+impl Drop for Handle {
+    fn drop(&mut self) {
+        unsafe { daachorse_free(self) };
+    }
 }
 
 type Search =
@@ -140,14 +217,17 @@ extern "C" {
         size: *mut usize,
         count: *mut usize,
     ) -> u32;
+    fn daachorse_share(handle: *mut Handle, other: *mut Handle) -> u32;
+    fn daachorse_accelerate(handle: *mut Handle, other: *mut Handle) -> u32;
     fn daachorse_read(handle: *mut Handle, bytes: *const u8, len: usize, taken: *mut usize) -> u32;
     fn daachorse_free(handle: *mut Handle);
 }
 
+/// What an answer says: 0 is success, and any other the number of a refusal.
 fn done(answer: u32) -> Result<(), Refusal> {
     match answer {
         0 => Ok(()),
-        number => Err(Refusal(number)),
+        number => Err(Refusal::ALL[number as usize - 1]),
     }
 }
 
@@ -157,7 +237,7 @@ fn done(answer: u32) -> Result<(), Refusal> {
 /// use daachorse_c::Builder;
 ///
 /// let patterns: [&[u8]; 2] = [b"Ab", b"cd"];
-/// let mut automaton = Builder::new().ascii_case_insensitive(true).build(patterns)?;
+/// let automaton = Builder::new().ascii_case_insensitive(true).build(patterns)?;
 /// let starts: Vec<usize> = automaton.find(b"xABCD")?.map(|found| found.start).collect();
 /// assert_eq!(starts, [1, 3]);
 /// # Ok::<(), daachorse_c::Refusal>(())
@@ -230,10 +310,10 @@ impl Builder {
             ends.push(bytes.len());
             values.push(value);
         }
-        let mut automaton = Automaton::empty();
+        let mut handle = Handle::empty();
         done(unsafe {
             daachorse_build(
-                &mut automaton.handle,
+                &mut handle,
                 self.kind as u32,
                 self.use_prefilter,
                 self.ascii_case_insensitive,
@@ -245,20 +325,52 @@ impl Builder {
                 values.len(),
             )
         })?;
-        automaton.has_empty = automaton.is_match(b"");
-        Ok(automaton)
+        Ok(Automaton::of(handle))
     }
 }
 
 /// An automaton over bytes, with a value of 32 bits for each pattern.
+///
+/// Threads may search it at once, by reference or by clones, which share it.
+#[derive(Clone)]
 pub struct Automaton {
-    handle: Handle,
+    shared: Arc<Shared>,
+}
+
+/// Handles of one automaton. One call at a time uses each.
+struct Shared {
+    // What other handles are made from.
+    source: Mutex<Handle>,
+    // Those that no call is using.
+    idle: Mutex<Vec<Handle>>,
     // Whether some pattern is empty.
     has_empty: bool,
 }
 
-// The library proves that a handle may move to another thread. Each call takes it by `&mut`.
-unsafe impl Send for Automaton {}
+fn locked<T>(mutex: &Mutex<T>) -> MutexGuard<'_, T> {
+    mutex.lock().unwrap_or_else(PoisonError::into_inner)
+}
+
+impl Shared {
+    /// Makes a call with a handle that no other call is using: an idle one, else a new one, else,
+    /// without memory for it, the source, in turn with other calls.
+    fn with<T>(&self, call: impl FnOnce(&mut Handle) -> T) -> T {
+        let idle = locked(&self.idle).pop();
+        let mut handle = match idle {
+            Some(handle) => handle,
+            None => {
+                let mut source = locked(&self.source);
+                match source.share() {
+                    Ok(handle) => handle,
+                    Err(_) => return call(&mut source),
+                }
+            }
+        };
+        let answer = call(&mut handle);
+        locked(&self.idle).push(handle);
+        answer
+    }
+}
 
 impl Automaton {
     /// Builds an automaton of these patterns. Pattern `i`, counted from 0, has the value `i`. A
@@ -297,18 +409,24 @@ impl Automaton {
     ///
     /// No automaton begins the bytes, or an allocation failed.
     pub fn read(bytes: &[u8]) -> Result<(Automaton, &[u8]), Refusal> {
-        let mut automaton = Automaton::empty();
+        let mut handle = Handle::empty();
         let mut taken = 0;
-        done(unsafe {
-            daachorse_read(
-                &mut automaton.handle,
-                bytes.as_ptr(),
-                bytes.len(),
-                &mut taken,
-            )
-        })?;
-        automaton.has_empty = automaton.is_match(b"");
-        Ok((automaton, &bytes[taken..]))
+        done(unsafe { daachorse_read(&mut handle, bytes.as_ptr(), bytes.len(), &mut taken) })?;
+        Ok((Automaton::of(handle), &bytes[taken..]))
+    }
+
+    /// Returns a copy that finds the same, faster if patterns are few and short: it has rows of the
+    /// states near the root, if there is room for them. Streams are no faster.
+    ///
+    /// # Errors
+    ///
+    /// An allocation of the library failed.
+    pub fn accelerate(&self) -> Result<Automaton, Refusal> {
+        let mut other = Handle::empty();
+        let answer = self
+            .shared
+            .with(|handle| unsafe { daachorse_accelerate(handle, &mut other) });
+        done(answer).map(|()| Automaton::of(other))
     }
 
     /// Returns the automaton as bytes, for [`Automaton::read`].
@@ -316,14 +434,14 @@ impl Automaton {
     /// # Errors
     ///
     /// An allocation of the library failed.
-    pub fn write(&mut self) -> Result<Vec<u8>, Refusal> {
+    pub fn write(&self) -> Result<Vec<u8>, Refusal> {
         let mut out = Vec::new();
         let mut size = 0;
         loop {
-            let answer = unsafe {
-                daachorse_write(&mut self.handle, out.as_mut_ptr(), out.len(), &mut size)
-            };
-            if answer != Refusal::NO_ROOM {
+            let answer = self.shared.with(|handle| unsafe {
+                daachorse_write(handle, out.as_mut_ptr(), out.len(), &mut size)
+            });
+            if answer != Refusal::NoRoom as u32 {
                 return done(answer).map(|()| out);
             }
             out.resize(size, 0);
@@ -340,7 +458,7 @@ impl Automaton {
     /// use daachorse_c::{Automaton, Kind};
     ///
     /// let patterns: [&[u8]; 3] = [b"b", b"abc", b"ab"];
-    /// let mut automaton = Automaton::new(Kind::Standard, true, patterns)?;
+    /// let automaton = Automaton::new(Kind::Standard, true, patterns)?;
     /// let listed = automaton.patterns()?;
     /// assert_eq!(listed, [(b"ab".to_vec(), 2), (b"abc".to_vec(), 1), (b"b".to_vec(), 0)]);
     /// # Ok::<(), daachorse_c::Refusal>(())
@@ -349,13 +467,13 @@ impl Automaton {
     /// # Errors
     ///
     /// An allocation of the library failed.
-    pub fn patterns(&mut self) -> Result<Vec<(Vec<u8>, u32)>, Refusal> {
+    pub fn patterns(&self) -> Result<Vec<(Vec<u8>, u32)>, Refusal> {
         let (mut bytes, mut ends, mut values) = (Vec::new(), Vec::new(), Vec::new());
         let (mut size, mut count) = (0, 0);
         loop {
-            let answer = unsafe {
+            let answer = self.shared.with(|handle| unsafe {
                 daachorse_list(
-                    &mut self.handle,
+                    handle,
                     bytes.as_mut_ptr(),
                     bytes.len(),
                     ends.as_mut_ptr(),
@@ -365,8 +483,8 @@ impl Automaton {
                     &mut size,
                     &mut count,
                 )
-            };
-            if answer != Refusal::NO_ROOM {
+            });
+            if answer != Refusal::NoRoom as u32 {
                 return done(answer).map(|()| patterns_in(&bytes, &ends, &values));
             }
             bytes.resize(size, 0);
@@ -379,8 +497,8 @@ impl Automaton {
     ///
     /// # Errors
     ///
-    /// [`Refusal::WRONG_KIND`]: the automaton is not standard.
-    pub fn find(&mut self, haystack: &[u8]) -> Result<vec::IntoIter<Match>, Refusal> {
+    /// [`Refusal::WrongKind`]: the automaton is not standard.
+    pub fn find(&self, haystack: &[u8]) -> Result<vec::IntoIter<Match>, Refusal> {
         self.search_apart(daachorse_find, haystack)
     }
 
@@ -388,8 +506,8 @@ impl Automaton {
     ///
     /// # Errors
     ///
-    /// [`Refusal::WRONG_KIND`]: the automaton is not standard.
-    pub fn find_overlapping(&mut self, haystack: &[u8]) -> Result<vec::IntoIter<Match>, Refusal> {
+    /// [`Refusal::WrongKind`]: the automaton is not standard.
+    pub fn find_overlapping(&self, haystack: &[u8]) -> Result<vec::IntoIter<Match>, Refusal> {
         self.search(daachorse_find_overlapping, haystack)
     }
 
@@ -397,9 +515,9 @@ impl Automaton {
     ///
     /// # Errors
     ///
-    /// [`Refusal::WRONG_KIND`]: the automaton is not standard.
+    /// [`Refusal::WrongKind`]: the automaton is not standard.
     pub fn find_overlapping_no_suffix(
-        &mut self,
+        &self,
         haystack: &[u8],
     ) -> Result<vec::IntoIter<Match>, Refusal> {
         self.search(daachorse_find_overlapping_no_suffix, haystack)
@@ -409,48 +527,42 @@ impl Automaton {
     ///
     /// # Errors
     ///
-    /// [`Refusal::WRONG_KIND`]: the automaton is standard.
-    pub fn leftmost_find(&mut self, haystack: &[u8]) -> Result<vec::IntoIter<Match>, Refusal> {
+    /// [`Refusal::WrongKind`]: the automaton is standard.
+    pub fn leftmost_find(&self, haystack: &[u8]) -> Result<vec::IntoIter<Match>, Refusal> {
         self.search_apart(daachorse_leftmost_find, haystack)
     }
 
     /// Returns whether some pattern occurs.
-    pub fn is_match(&mut self, haystack: &[u8]) -> bool {
-        let mut found = false;
-        // Only an empty handle is refused, and that of an automaton is not empty.
-        let _done = unsafe {
-            daachorse_is_match(
-                &mut self.handle,
-                haystack.as_ptr(),
-                haystack.len(),
-                &mut found,
-            )
-        };
-        found
+    pub fn is_match(&self, haystack: &[u8]) -> bool {
+        self.shared.with(|handle| is_match(handle, haystack))
     }
 
-    /// Begins a stream, for all matches or for those of [`Automaton::find`].
+    /// Begins a stream, for all matches or for those of [`Automaton::find`]. An automaton has any
+    /// number of streams, which may outlive it.
     ///
     /// # Errors
     ///
-    /// [`Refusal::WRONG_KIND`]: the automaton is not standard.
-    pub fn stream(&mut self, overlapping: bool) -> Result<Stream<'_>, Refusal> {
-        done(unsafe { daachorse_begin(&mut self.handle, overlapping) })?;
-        Ok(Stream { automaton: self })
+    /// The automaton is not standard ([`Refusal::WrongKind`]), or an allocation failed.
+    pub fn stream(&self, overlapping: bool) -> Result<Stream, Refusal> {
+        let mut handle = locked(&self.shared.source).share()?;
+        done(unsafe { daachorse_begin(&mut handle, overlapping) })?;
+        Ok(Stream { handle })
     }
 
-    fn empty() -> Automaton {
-        let handle = Handle {
-            opaque: std::ptr::null_mut(),
+    fn of(mut handle: Handle) -> Automaton {
+        let has_empty = is_match(&mut handle, b"");
+        let shared = Shared {
+            source: Mutex::new(handle),
+            idle: Mutex::new(Vec::new()),
+            has_empty,
         };
         Automaton {
-            handle,
-            has_empty: false,
+            shared: Arc::new(shared),
         }
     }
 
     /// Searches with little room at first, then with as much as is likely to hold all matches.
-    fn search(&mut self, search: Search, haystack: &[u8]) -> Result<vec::IntoIter<Match>, Refusal> {
+    fn search(&self, search: Search, haystack: &[u8]) -> Result<vec::IntoIter<Match>, Refusal> {
         let mut found = Vec::with_capacity(64);
         loop {
             self.fill(search, haystack, &mut found)?;
@@ -465,11 +577,11 @@ impl Automaton {
     /// 65,536, then for twice as many. If no pattern is empty, it resumes after the last match:
     /// the remaining matches are those of the rest.
     fn search_apart(
-        &mut self,
+        &self,
         search: Search,
         haystack: &[u8],
     ) -> Result<vec::IntoIter<Match>, Refusal> {
-        if self.has_empty {
+        if self.shared.has_empty {
             return self.search(search, haystack);
         }
         let mut found = Vec::with_capacity((haystack.len() / 2 + 64).min(1 << 16));
@@ -489,28 +601,31 @@ impl Automaton {
     }
 
     /// Appends the first matches of a search, as many as there is room for.
-    fn fill(
-        &mut self,
-        search: Search,
-        haystack: &[u8],
-        found: &mut Vec<Match>,
-    ) -> Result<(), Refusal> {
+    fn fill(&self, search: Search, haystack: &[u8], found: &mut Vec<Match>) -> Result<(), Refusal> {
         let room = found.spare_capacity_mut();
         let mut written = 0;
-        done(unsafe {
+        done(self.shared.with(|handle| unsafe {
             search(
-                &mut self.handle,
+                handle,
                 haystack.as_ptr(),
                 haystack.len(),
                 room.as_mut_ptr().cast(),
                 room.len(),
                 &mut written,
             )
-        })?;
+        }))?;
         // SAFETY: the library wrote so many matches to the spare capacity, and reads none of it.
         unsafe { found.set_len(found.len() + written) };
         Ok(())
     }
+}
+
+/// Whether some pattern occurs. The handle is not empty, and no other is refused.
+fn is_match(handle: &mut Handle, haystack: &[u8]) -> bool {
+    let mut found = false;
+    let _done =
+        unsafe { daachorse_is_match(handle, haystack.as_ptr(), haystack.len(), &mut found) };
+    found
 }
 
 /// Adds an offset to matches that were found in a rest.
@@ -539,11 +654,11 @@ const NO_MATCH: Match = Match {
 };
 
 /// A stream: a haystack that comes in pieces. Offsets count from its beginning.
-pub struct Stream<'a> {
-    automaton: &'a mut Automaton,
+pub struct Stream {
+    handle: Handle,
 }
 
-impl Stream<'_> {
+impl Stream {
     /// Feeds the next piece, and returns the matches that end in it. The first call also returns
     /// the empty matches at the beginning.
     ///
@@ -557,7 +672,7 @@ impl Stream<'_> {
             let (mut taken, mut written) = (0, 0);
             done(unsafe {
                 daachorse_consume(
-                    &mut self.automaton.handle,
+                    &mut self.handle,
                     piece.as_ptr(),
                     piece.len(),
                     room.as_mut_ptr(),
@@ -584,12 +699,6 @@ fn room_for(haystack: usize, first: &[Match]) -> usize {
     thick.clamp(2 * count as u128, (64 * count as u128).max(1 << 16)) as usize
 }
 
-impl Drop for Automaton {
-    fn drop(&mut self) {
-        unsafe { daachorse_free(&mut self.handle) };
-    }
-}
-
 #[cfg(test)]
 mod tests {
     use super::*;
@@ -607,7 +716,7 @@ mod tests {
     fn case_is_disregarded_where_it_is_asked_for() {
         for yes in [false, true] {
             let builder = Builder::default().ascii_case_insensitive(yes);
-            let mut automaton = builder.build(PATTERNS).unwrap();
+            let automaton = builder.build(PATTERNS).unwrap();
             let found = triples(automaton.find(b"xABcd"));
             let wanted: &[_] = if yes {
                 &[(1, 3, 0), (3, 5, 3)]
@@ -617,7 +726,7 @@ mod tests {
             assert_eq!(found, wanted);
             assert_eq!(automaton.is_match(b"xaB"), yes);
             let written = automaton.write().unwrap();
-            let (mut again, _) = Automaton::read(&written).unwrap();
+            let (again, _) = Automaton::read(&written).unwrap();
             assert_eq!(triples(again.find(b"xABcd")), wanted);
         }
     }
@@ -625,7 +734,7 @@ mod tests {
     #[test]
     fn each_search_finds_its_matches() {
         for use_prefilter in [false, true] {
-            let mut standard = Automaton::new(Kind::Standard, use_prefilter, PATTERNS).unwrap();
+            let standard = Automaton::new(Kind::Standard, use_prefilter, PATTERNS).unwrap();
             assert_eq!(triples(standard.find(b"abcd")), [(0, 2, 0), (2, 4, 3)]);
             assert_eq!(
                 triples(standard.find_overlapping(b"abcd")),
@@ -635,10 +744,9 @@ mod tests {
                 triples(standard.find_overlapping_no_suffix(b"abcd")),
                 [(0, 2, 0), (1, 3, 2), (0, 4, 1)]
             );
-            let mut longest =
-                Automaton::new(Kind::LeftmostLongest, use_prefilter, PATTERNS).unwrap();
+            let longest = Automaton::new(Kind::LeftmostLongest, use_prefilter, PATTERNS).unwrap();
             assert_eq!(triples(longest.leftmost_find(b"abcd")), [(0, 4, 1)]);
-            let mut first = Automaton::new(Kind::LeftmostFirst, use_prefilter, PATTERNS).unwrap();
+            let first = Automaton::new(Kind::LeftmostFirst, use_prefilter, PATTERNS).unwrap();
             assert_eq!(
                 triples(first.leftmost_find(b"abcd")),
                 [(0, 2, 0), (2, 4, 3)]
@@ -688,10 +796,10 @@ mod tests {
             };
             let wanted: Vec<_> = words[6..].iter().map(pair).collect();
             let (builder, patterns) = settings(&words);
-            let mut automaton = builder.build(patterns.iter().map(Vec::as_slice)).unwrap();
+            let automaton = builder.build(patterns.iter().map(Vec::as_slice)).unwrap();
             assert_eq!(automaton.patterns().unwrap(), wanted, "{words:?}");
             let listed = wanted.iter().map(|(pattern, value)| (&pattern[..], *value));
-            let mut again = Builder::new().build_with_values(listed).unwrap();
+            let again = Builder::new().build_with_values(listed).unwrap();
             assert_eq!(again.patterns().unwrap(), wanted, "{words:?}");
         }
     }
@@ -704,17 +812,21 @@ mod tests {
             let wanted: Vec<_> = words[6..].iter().map(|word| numbers(word)).collect();
             for use_prefilter in [false, true] {
                 let patterns = patterns.iter().map(Vec::as_slice);
-                let mut automaton = builder
+                let automaton = builder
                     .use_prefilter(use_prefilter)
                     .build(patterns)
                     .unwrap();
-                let found = match words[0] {
-                    "find" => automaton.find(&haystack),
-                    "find_overlapping" => automaton.find_overlapping(&haystack),
-                    "find_overlapping_no_suffix" => automaton.find_overlapping_no_suffix(&haystack),
-                    _ => automaton.leftmost_find(&haystack),
-                };
-                assert_eq!(triples(found), wanted, "{words:?}");
+                for searcher in [&automaton, &automaton.accelerate().unwrap()] {
+                    let found = match words[0] {
+                        "find" => searcher.find(&haystack),
+                        "find_overlapping" => searcher.find_overlapping(&haystack),
+                        "find_overlapping_no_suffix" => {
+                            searcher.find_overlapping_no_suffix(&haystack)
+                        }
+                        _ => searcher.leftmost_find(&haystack),
+                    };
+                    assert_eq!(triples(found), wanted, "{words:?}");
+                }
                 if let "find" | "find_overlapping" = words[0] {
                     let mut stream = automaton.stream(words[0] != "find").unwrap();
                     let mut told = triples(stream.feed(b""));
@@ -729,7 +841,7 @@ mod tests {
 
     #[test]
     fn room_grows() {
-        let mut automaton = Automaton::with_values(Kind::Standard, true, [(&b"a"[..], 5)]).unwrap();
+        let automaton = Automaton::with_values(Kind::Standard, true, [(&b"a"[..], 5)]).unwrap();
         let found = triples(automaton.find_overlapping(&[b'a'; 1000]));
         assert_eq!(found.len(), 1000);
         assert_eq!(found[999], (999, 1000, 5));
@@ -741,8 +853,8 @@ mod tests {
         let lists: [&[&[u8]]; 3] = [&[b"a", b"b"], &[b"a", b"b", b"ba"], &[b"a", b"", b"ab"]];
         for patterns in lists {
             for kind in [Kind::Standard, Kind::LeftmostLongest, Kind::LeftmostFirst] {
-                let mut automaton = Automaton::new(kind, true, patterns.iter().copied()).unwrap();
-                assert_eq!(automaton.has_empty, patterns.contains(&&b""[..]));
+                let automaton = Automaton::new(kind, true, patterns.iter().copied()).unwrap();
+                assert_eq!(automaton.shared.has_empty, patterns.contains(&&b""[..]));
                 let (found, wanted) = match kind {
                     Kind::Standard => (
                         automaton.find(&haystack),
@@ -763,48 +875,79 @@ mod tests {
     #[test]
     fn a_stream_tells_what_a_search_finds() {
         let patterns: [&[u8]; 2] = [b"a", b"aa"];
-        let mut automaton = Automaton::new(Kind::Standard, true, patterns).unwrap();
+        let automaton = Automaton::new(Kind::Standard, true, patterns).unwrap();
         let wanted = triples(automaton.find_overlapping(&[b'a'; 1000]));
         let mut stream = automaton.stream(true).unwrap();
         let mut told = triples(stream.feed(&[b'a'; 500]));
         told.extend(triples(stream.feed(&[b'a'; 500])));
         assert_eq!(told, wanted);
-        let mut first = Automaton::new(Kind::LeftmostFirst, true, patterns).unwrap();
+        let first = Automaton::new(Kind::LeftmostFirst, true, patterns).unwrap();
         assert_eq!(
             first.stream(true).map(|_| ()).err(),
-            Some(Refusal::WRONG_KIND)
+            Some(Refusal::WrongKind)
         );
     }
 
     #[test]
     fn what_was_written_is_read_back() {
-        let mut automaton = Automaton::new(Kind::Standard, true, PATTERNS).unwrap();
+        let automaton = Automaton::new(Kind::Standard, true, PATTERNS).unwrap();
         let mut written = automaton.write().unwrap();
         assert_eq!(
             Automaton::read(&written[1..]).err(),
-            Some(Refusal::INVALID_AUTOMATON)
+            Some(Refusal::InvalidAutomaton)
         );
         written.extend_from_slice(b"rest");
-        let (mut again, rest) = Automaton::read(&written).unwrap();
+        let (again, rest) = Automaton::read(&written).unwrap();
         assert_eq!(rest, b"rest");
         assert!(again.is_match(b"xcdx"));
         assert!(!again.is_match(b"acbd"));
     }
 
     #[test]
+    fn each_refusal_has_its_number() {
+        for (number, refusal) in (1..).zip(Refusal::ALL) {
+            assert_eq!(refusal as u32, number);
+            assert_eq!(done(number), Err(refusal));
+        }
+    }
+
+    #[test]
     fn a_search_of_another_kind_is_refused() {
-        let mut automaton = Automaton::new(Kind::Standard, true, PATTERNS).unwrap();
+        let automaton = Automaton::new(Kind::Standard, true, PATTERNS).unwrap();
         assert_eq!(
             automaton.leftmost_find(b"abcd").err(),
-            Some(Refusal::WRONG_KIND)
+            Some(Refusal::WrongKind)
         );
     }
 
     #[test]
-    fn an_automaton_goes_to_another_thread() {
-        let mut automaton = Automaton::new(Kind::Standard, true, PATTERNS).unwrap();
-        assert!(std::thread::spawn(move || automaton.is_match(b"abcd"))
-            .join()
-            .unwrap());
+    fn threads_search_one_automaton_at_once() {
+        let automaton = Automaton::new(Kind::Standard, true, PATTERNS).unwrap();
+        let wanted = triples(automaton.find_overlapping(b"abcd"));
+        let threads: Vec<_> = (0..8)
+            .map(|_| {
+                let (automaton, wanted) = (automaton.clone(), wanted.clone());
+                std::thread::spawn(move || {
+                    for _ in 0..200 {
+                        assert_eq!(triples(automaton.find_overlapping(b"abcd")), wanted);
+                    }
+                })
+            })
+            .collect();
+        for thread in threads {
+            thread.join().unwrap();
+        }
+        assert!(locked(&automaton.shared.idle).len() <= 8);
+    }
+
+    #[test]
+    fn streams_stand_apart_and_outlive_their_automaton() {
+        let automaton = Automaton::new(Kind::Standard, true, PATTERNS).unwrap();
+        let mut one = automaton.stream(true).unwrap();
+        let mut other = automaton.stream(false).unwrap();
+        drop(automaton);
+        assert_eq!(triples(one.feed(b"ab")), [(0, 2, 0)]);
+        assert_eq!(triples(other.feed(b"xcd")), [(1, 3, 3)]);
+        assert_eq!(triples(one.feed(b"cd")), [(1, 3, 2), (0, 4, 1), (2, 4, 3)]);
     }
 }

@@ -1,11 +1,11 @@
 -- What a handle keeps says the same to every thread: an automaton, and where its stream stands, whose counts take no bytes.
-use denote.Param.Send.{IsSend, recorded_send, sendable, struct_send, view_send}
+use denote.Param.Send.{IsSend, IsSync, recorded_send, sendable, struct_send, view_send}
 use denote.Struct.Declared.{shape}
 use Rattle.core.proofs.snapshot.Sent.{snapshot_send}
 use Rattle.core.proofs.option.Option.TheSendSync as option
 use Rattle.std.proofs.num.nonzero.NonZeroU32.TheSendSync as nonzero
 use Rattle.std.proofs.alloc.Global.TheSendSync as heap
-use Rattle.std.proofs.Crossing.{frees}
+use Rattle.std.proofs.Crossing.{Arc-send, frees}
 use Rattle.daachorse_core.specs.contracts.counter.Counter as counter
 use Rattle.daachorse_core.specs.contracts.turns.Turns as turns
 use Rattle.daachorse_core.specs.contracts.turns.Seen as seen
@@ -15,8 +15,10 @@ use Rattle.daachorse_search.specs.contracts.find_stepper.FindStanding.TheInside 
 use Rattle.daachorse_search.specs.contracts.overlapping_stepper.OverlappingStanding as overlapping
 use Rattle.daachorse_search.specs.contracts.overlapping_stepper.OverlappingStanding.TheInside as overlapping_inside
 use Rattle.daachorse_bytewise.proofs.bytewise.DoubleArrayAhoCorasick.TheSendSync as bytewise
+use Rattle.daachorse_bytewise.proofs.bytewise.accelerated.Accelerated.TheSendSync as rowed
 use Rattle.daachorse_c.specs.contracts.automaton.Searcher as automaton
 use Rattle.daachorse_c.specs.contracts.automaton.Searcher.TheInside as inside
+use Rattle.daachorse_c.specs.contracts.searches.Searches as searches
 use Rattle.daachorse_c.specs.contracts.stepper.Standing as standing
 use Rattle.daachorse_c.specs.contracts.stream.Stream as stream
 
@@ -48,7 +50,13 @@ standing_send = let f = find_send in let o = overlapping_send in search sendable
 stream_send : IsSend stream.the_row
 stream_send = recorded_send stream.the_field.row _ _ stream.the_type.to_one (struct_send (shape stream.the_type) (standing_send, (search sendable, (search sendable, tt))))
 
+searches_send : IsSend searches.the_row
+searches_send = let a = heap.the_send in let f = frees in search (sendable, bytewise.the_send, rowed.the_send) depth 20
+
+searches_sync : IsSync searches.the_row
+searches_sync = let a = heap.the_sync in search (sendable, bytewise.the_sync, rowed.the_sync) depth 20
+
 pub automaton_send : IsSend automaton.the_row
 automaton_send =
-    let a = heap.the_send in let f = frees in
-    view_send _ _ _ _ _ (recorded_send inside.the_field.row _ _ inside.the_type.to_one (struct_send (shape inside.the_type) (search (sendable, bytewise.the_send) depth 20, (option.the_field_send _ stream_send, tt))))
+    let a = Arc-send searches.the_row searches_send searches_sync in
+    view_send _ _ _ _ _ (recorded_send inside.the_field.row _ _ inside.the_type.to_one (struct_send (shape inside.the_type) (a, (option.the_field_send _ stream_send, tt))))

@@ -4,3 +4,4 @@ mod Registrations
 mod Telling
 mod Values
 mod Writing
+pub mod Asked

@@ -11,7 +11,7 @@ use Rattle.daachorse_model.specs.Units.{byte_width}
 use Rattle.daachorse_bytewise.specs.Automata.{dictionary_of, kind_of}
 use Rattle.daachorse_c.specs.declared.found.CMatch.{CMatch}
 use Rattle.daachorse_c.specs.declared.refusal.Refusal.{Refusal}
-use Rattle.daachorse_c.specs.declared.refusal.Refusal.TheVariants.{EmptyHandle, WrongKind}
+use Rattle.daachorse_c.specs.declared.refusal.Refusal.TheVariants.{EmptyHandle, OutOfMemory, WrongKind}
 use Rattle.daachorse_c.specs.declared.search.SearchKind.{SearchKind}
 use Rattle.daachorse_c.specs.declared.search.SearchKind.TheVariants.{Find, Overlapping, NoSuffix, Leftmost}
 use Rattle.daachorse_c.specs.Held.{Held}
@@ -34,6 +34,10 @@ ServesKind Leftmost kind = kind ≢ Standard
 -- why a call is refused that asks for an automaton of any kind
 abbrev pub IsUseCause : Option Held → Refusal → Type 0
 IsUseCause held r = (r ≡ EmptyHandle) × IsNone held
+
+-- why an automaton is not shared
+abbrev pub IsShareCause : Option Held → Refusal → Type 0
+IsShareCause held r = IsUseCause held r ⊎ (r ≡ OutOfMemory)
 
 -- why a search is refused
 abbrev pub IsSearchCause : SearchKind → Option Held → Refusal → Type 0

@@ -1,57 +1,99 @@
 //! What a handle holds, and the calls on it.
 
 ghost use Rattle.std.specs.Prelude.{◌≡◌, ◌≢◌, ◌↔◌, [], None, IfErr, IfOk, IsTrue, OnErr, OnOk, length};
+ghost use Rattle.std.specs.Arc.{arc_value};
 ghost use Rattle.daachorse_model.specs.declared.MatchKind.TheVariants.{Standard};
 ghost use Rattle.daachorse_model.specs.Folding.{as_read};
 ghost use Rattle.daachorse_model.specs.Matches.{overlapping};
 ghost use Rattle.daachorse_model.specs.Units.{byte_width};
 ghost use Rattle.daachorse_bytewise.specs.Automata.{dictionary_of, kind_of};
-ghost use Rattle.daachorse_c.specs.declared.refusal.Refusal.TheVariants.{WrongKind};
+ghost use Rattle.daachorse_c.specs.declared.refusal.Refusal.TheVariants.{OutOfMemory, WrongKind};
+ghost use Rattle.daachorse_c.specs.Held.{automaton_of};
 ghost use Rattle.daachorse_c.specs.Listing.{IsNotListed, HasListed, arrays};
 ghost use Rattle.daachorse_c.specs.Searches.{ServesKind, found_by};
 ghost use Rattle.daachorse_c.specs.Streaming.{HasBegun, HasConsumed, IsIdleCause};
 ghost use Rattle.daachorse_c.specs.Writes.{Writes};
 ghost use Rattle.daachorse_c.specs.Written.{IsNotWritten, IsWhole, StandsInFront, form_of};
 
-use crate::found::{CMatch, fill};
+use crate::found::CMatch;
 use crate::listing::Listing;
 use crate::refusal::Refusal;
 use crate::room::copy_to_front;
 use crate::search::SearchKind;
+use crate::searches::Searches;
 use crate::stream::{Done, Stream};
 use daachorse::DoubleArrayAhoCorasick;
 use std::alloc::Global;
 use std::marker::Model;
+use std::sync::Arc;
 
-/// An automaton over bytes with 32-bit values, and the stream that it searches, if any.
+/// An automaton over bytes with 32-bit values, which several handles may share, and the stream that
+/// this one searches, if any.
 #[derive(Drop)]
 pub struct Searcher {
-    searches: DoubleArrayAhoCorasick<u32, Global>,
+    searches: Arc<Searches, Global>,
     stream: Option<Stream>,
 }
 
 impl Model for Searcher {
     ghost use Rattle.std.specs.Prelude.{IfSome};
-    ghost use Rattle.daachorse_c.specs.Held.{Held};
+    ghost use Rattle.std.specs.Arc.{arc_value};
+    ghost use Rattle.daachorse_c.specs.Held.{Held, automaton_of};
     ghost use Rattle.daachorse_c.specs.Streams.{GoesOnIn};
 
     ghost Value = { Held };
 
-    ghost view = { λ a. record { searches = a.searches; stream = a.stream } };
+    ghost view = { λ a. record { searches = automaton_of (arc_value a.searches); stream = a.stream } };
 
-    ghost invariant = { λ a. IfSome a.stream (GoesOnIn a.searches) };
+    ghost invariant = { λ a. IfSome a.stream (GoesOnIn (automaton_of (arc_value a.searches))) };
 }
 
 impl Searcher {
-    /// A searcher with no stream.
-    pub(crate) fn new(searches: DoubleArrayAhoCorasick<u32, Global>) -> Searcher
-        ensures searches { result.searches ≡ searches }
-        ensures stream { result.stream ≡ None }
+    /// A searcher with no stream. Fails only if an allocation fails.
+    pub(crate) fn new(
+        alloc: Global,
+        automaton: DoubleArrayAhoCorasick<u32, Global>,
+    ) -> Result<Box<Searcher, Global>, Refusal>
+        ensures searches { IfOk result (λ b. b.value.searches ≡ automaton) }
+        ensures stream { IfOk result (λ b. b.value.stream ≡ None) }
+        ensures err { IfErr result (λ r. r ≡ OutOfMemory) }
     {
-        Searcher {
+        Searcher::over(alloc, Arc::new(alloc, Searches::Plain(automaton))?)
+    }
+
+    /// A searcher of a copy of the automaton with rows, if there is room for them, and no stream.
+    /// Fails only if an allocation fails.
+    pub(crate) fn accelerate(&self, alloc: Global) -> Result<Box<Searcher, Global>, Refusal>
+        ensures searches { IfOk result (λ b. b.value.searches ≡ self.now.searches) }
+        ensures stream { IfOk result (λ b. b.value.stream ≡ None) }
+        ensures err { IfErr result (λ r. r ≡ OutOfMemory) }
+    {
+        let copy = self.searches.automaton().clone()?;
+        Searcher::over(alloc, Arc::new(alloc, Searches::with_rows(alloc, copy))?)
+    }
+
+    /// Another searcher of the same automaton, with no stream. Fails only if an allocation fails.
+    pub(crate) fn share(&self, alloc: Global) -> Result<Box<Searcher, Global>, Refusal>
+        ensures searches { IfOk result (λ b. b.value.searches ≡ self.now.searches) }
+        ensures stream { IfOk result (λ b. b.value.stream ≡ None) }
+        ensures err { IfErr result (λ r. r ≡ OutOfMemory) }
+    {
+        Searcher::over(alloc, Arc::try_clone(&self.searches)?)
+    }
+
+    fn over(
+        alloc: Global,
+        searches: Arc<Searches, Global>,
+    ) -> Result<Box<Searcher, Global>, Refusal>
+        ensures searches { IfOk result (λ b. b.value.searches ≡ automaton_of (arc_value searches)) }
+        ensures stream { IfOk result (λ b. b.value.stream ≡ None) }
+        ensures err { IfErr result (λ r. r ≡ OutOfMemory) }
+    {
+        let searcher = Searcher {
             searches,
             stream: None,
-        }
+        };
+        Ok(Box::new(alloc, searcher)?)
     }
 
     /// Writes the first matches of a search, as many as there is room for, and returns their
@@ -66,10 +108,10 @@ impl Searcher {
         ensures err { IfErr result (λ r. (r ≡ WrongKind) × (ServesKind search (kind_of self.now.searches) → ⊥)) }
         ensures unwritten { IfErr result (λ _. out.new ≡ out.old) }
     {
-        if !search.is_for(self.searches.match_kind()) {
+        if !search.is_for(self.searches.automaton().match_kind()) {
             return Err(Refusal::WrongKind);
         }
-        Ok(find_in(&self.searches, search, haystack, out))
+        Ok(self.searches.find(search, haystack, out))
     }
 
     /// Returns whether some pattern occurs.
@@ -94,7 +136,7 @@ impl Searcher {
         ensures unwritten { OnErr result (out.new ≡ out.old) }
     {
         *size = 0;
-        let form = self.searches.serialize(alloc)?;
+        let form = self.searches.automaton().serialize(alloc)?;
         *size = form.len();
         copy_to_front(&form, out)
     }
@@ -116,7 +158,7 @@ impl Searcher {
     {
         *size = 0;
         *count = 0;
-        let listing = Listing::new(alloc, &self.searches)?;
+        let listing = Listing::new(alloc, self.searches.automaton())?;
         *size = listing.bytes.len();
         *count = listing.ends.len();
         listing.copy_to_front(bytes, ends, values)
@@ -128,10 +170,11 @@ impl Searcher {
         ensures err { IfErr result (λ r. (r ≡ WrongKind) × (kind_of self.old.searches ≢ Standard)) }
         ensures unchanged { OnErr result (self.new ≡ self.old) }
     {
-        if !self.searches.match_kind().is_standard() {
+        let automaton = self.searches.automaton();
+        if !automaton.match_kind().is_standard() {
             return Err(Refusal::WrongKind);
         }
-        self.stream = Some(Stream::new(&self.searches, overlapping));
+        self.stream = Some(Stream::new(automaton, overlapping));
         Ok(())
     }
 
@@ -144,30 +187,13 @@ impl Searcher {
         let Some(stream) = self.stream.take() else {
             return Err(Refusal::NoStream);
         };
-        if !stream.can_count(&self.searches, bytes.len(), out.len()) {
+        let automaton = self.searches.automaton();
+        if !stream.can_count(automaton, bytes.len(), out.len()) {
             self.stream = Some(stream);
             return Err(Refusal::StreamTooLong);
         }
-        let (stream, done) = stream.consume(&self.searches, bytes, out);
+        let (stream, done) = stream.consume(automaton, bytes, out);
         self.stream = Some(stream);
         Ok(done)
-    }
-}
-
-/// Writes the first matches of a search that serves the automaton's kind.
-fn find_in(
-    searches: &DoubleArrayAhoCorasick<u32, Global>,
-    search: SearchKind,
-    haystack: &[u8],
-    out: &mut [CMatch],
-) -> usize
-    requires { ServesKind search (kind_of searches.now) }
-    ensures { Writes (found_by search (dictionary_of searches.now) (as_read searches.now.folds haystack.now)) out.old out.new result }
-{
-    match search {
-        SearchKind::Find => fill(searches.find_iter(haystack), out),
-        SearchKind::Overlapping => fill(searches.find_overlapping_iter(haystack), out),
-        SearchKind::NoSuffix => fill(searches.find_overlapping_no_suffix_iter(haystack), out),
-        SearchKind::Leftmost => fill(searches.leftmost_find_iter(haystack), out),
     }
 }

@@ -39,7 +39,7 @@ pub(crate) fn build(
         ascii_case_insensitive,
         &patterns,
     )?;
-    Ok(Box::new(alloc, Searcher::new(searches))?)
+    Searcher::new(alloc, searches)
 }
 
 /// The kind with this number.

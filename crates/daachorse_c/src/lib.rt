@@ -5,7 +5,7 @@
 //! `bindings/c/daachorse.h` states what C has to keep to.
 #![tactic(auto)]
 
-ghost use Rattle.std.specs.Prelude.{◌≡◌, ◌≢◌, ◌↔◌, [], None, IsNone, IsSomeAnd, IsTrue, false, length};
+ghost use Rattle.std.specs.Prelude.{◌≡◌, ◌≢◌, ◌↔◌, [], None, Some, IsNone, IsSomeAnd, IsTrue, MatchResult, false, length};
 ghost use Rattle.daachorse_model.specs.Folding.{as_read};
 ghost use Rattle.daachorse_model.specs.Matches.{overlapping};
 ghost use Rattle.daachorse_model.specs.Units.{byte_width};
@@ -13,11 +13,12 @@ ghost use Rattle.daachorse_bytewise.specs.Automata.{dictionary_of};
 ghost use Rattle.daachorse_c.specs.declared.search.SearchKind.TheVariants.{Find, Leftmost, NoSuffix, Overlapping};
 ghost use Rattle.daachorse_c.specs.Building.{IsBuildCause, IsBuiltFrom};
 ghost use Rattle.daachorse_c.specs.Listing.{IsListCause, HasListed, arrays};
-ghost use Rattle.daachorse_c.specs.Refusals.{IsDoneOr};
-ghost use Rattle.daachorse_c.specs.Searches.{IsSearchOf, IsUseCause};
+ghost use Rattle.daachorse_c.specs.Refusals.{IsDoneOr, refusal_number};
+ghost use Rattle.daachorse_c.specs.Searches.{IsSearchOf, IsShareCause, IsUseCause};
 ghost use Rattle.daachorse_c.specs.Streaming.{HasBegun, IsBeginCause, IsConsumption};
 ghost use Rattle.daachorse_c.specs.Written.{IsRead, IsReadCause, IsWhole, IsWriteCause, StandsInFront, form_of};
 
+use crate::automaton::Searcher;
 use crate::building::build;
 use crate::found::CMatch;
 use crate::handle::Handle;
@@ -37,6 +38,7 @@ mod reading;
 mod refusal;
 mod room;
 mod search;
+mod searches;
 mod stepper;
 mod stream;
 
@@ -85,6 +87,56 @@ pub extern "C" fn daachorse_build(
         }
         Err(refusal) => refusal.number(),
     }
+}
+
+/// Fills `other` with the automaton of the handle, and frees what it held. No copy is made: the
+/// automaton is freed with the last handle that has it. Each of them has a stream of its own, and
+/// `other` has none at first.
+///
+/// # Errors
+///
+/// The numbers of [`Refusal::EmptyHandle`] and `OutOfMemory`. `other` is then unchanged.
+#[unsafe(no_mangle)]
+pub extern "C" fn daachorse_share(alloc: Global, handle: &mut Handle, other: &mut Handle) -> u32
+    ensures kept { handle.new.automaton ≡ handle.old.automaton }
+    ensures shared { result ≡ 0 → IsSomeAnd handle.old.automaton (λ a. IsSomeAnd other.new.automaton (λ b. b.searches ≡ a.searches)) }
+    ensures stream { result ≡ 0 → IsSomeAnd other.new.automaton (λ b. b.stream ≡ None) }
+    ensures refused { IsDoneOr (IsShareCause handle.old.automaton) result }
+    ensures unchanged { result ≢ 0 → other.new.automaton ≡ other.old.automaton }
+{
+    let Some(automaton) = handle.take(alloc) else {
+        return Refusal::EmptyHandle.number();
+    };
+    let answer = automaton.share(alloc);
+    handle.put(automaton);
+    put_into(alloc, other, answer)
+}
+
+/// Fills `other` with a copy of the automaton that has rows of the states near its root, if there
+/// is room for them, and frees what it held. It finds the same, faster if patterns are few and
+/// short. The handle keeps its own, and `other` has no stream.
+///
+/// # Errors
+///
+/// The numbers of [`Refusal::EmptyHandle`] and `OutOfMemory`. `other` is then unchanged.
+#[unsafe(no_mangle)]
+pub extern "C" fn daachorse_accelerate(
+    alloc: Global,
+    handle: &mut Handle,
+    other: &mut Handle,
+) -> u32
+    ensures kept { handle.new.automaton ≡ handle.old.automaton }
+    ensures same { result ≡ 0 → IsSomeAnd handle.old.automaton (λ a. IsSomeAnd other.new.automaton (λ b. b.searches ≡ a.searches)) }
+    ensures stream { result ≡ 0 → IsSomeAnd other.new.automaton (λ b. b.stream ≡ None) }
+    ensures refused { IsDoneOr (IsShareCause handle.old.automaton) result }
+    ensures unchanged { result ≢ 0 → other.new.automaton ≡ other.old.automaton }
+{
+    let Some(automaton) = handle.take(alloc) else {
+        return Refusal::EmptyHandle.number();
+    };
+    let answer = automaton.accelerate(alloc);
+    handle.put(automaton);
+    put_into(alloc, other, answer)
 }
 
 /// Writes to `out` the first matches that do not overlap, each ending as early as possible, and
@@ -352,6 +404,24 @@ pub extern "C" fn daachorse_free(alloc: Global, handle: &mut Handle)
     ensures { IsNone handle.new.automaton }
 {
     let _automaton = handle.take(alloc);
+}
+
+/// Puts an automaton into the handle, and frees the one that it held, unless the call for it was
+/// refused.
+fn put_into(
+    alloc: Global,
+    handle: &mut Handle,
+    answer: Result<Box<Searcher, Global>, Refusal>,
+) -> u32
+    ensures { MatchResult answer (λ b. (result ≡ 0) × (handle.new.automaton ≡ Some b.value)) (λ r. (result ≡ refusal_number r) × (handle.new.automaton ≡ handle.old.automaton)) }
+{
+    match answer {
+        Ok(automaton) => {
+            handle.fill(alloc, automaton);
+            DONE
+        }
+        Err(refusal) => refusal.number(),
+    }
 }
 
 /// Writes the first matches of a search, and their number.

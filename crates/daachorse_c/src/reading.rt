@@ -19,7 +19,7 @@ pub(crate) fn read(alloc: Global, bytes: &[u8]) -> Result<(Box<Searcher, Global>
     match DoubleArrayAhoCorasick::deserialize(alloc, bytes) {
         Ok((searches, rest)) => {
             let taken = bytes.len() - rest.len();
-            Ok((Box::new(alloc, Searcher::new(searches))?, taken))
+            Ok((Searcher::new(alloc, searches)?, taken))
         }
         Err(DaachorseError::OutOfMemory(_)) => Err(Refusal::OutOfMemory),
         Err(_) => Err(Refusal::InvalidAutomaton),

@@ -1,12 +1,12 @@
 -- What is built of the patterns that were read is built of the registrations that they are.
 use Rattle.std.proofs.Common.{◌≡◌, ℕ, List, map, sym, ap, ◌∙◌, subst}
+use Rattle.std.proofs.lemmas.Result.{IfOk-weaker}
 use Rattle.std.proofs.lemmas.Simd.{map-map}
 use Rattle.std.specs.Borrow.{Bor}
 use Rattle.daachorse_model.specs.Dictionary.{registrations_of}
 use Rattle.daachorse_model.specs.Folding.{all_as_read}
 use Rattle.daachorse_bytewise.specs.Building.{IsBuiltWith, kept_filter}
 use Rattle.daachorse_c.specs.Building.{IsBuiltFrom}
-use Rattle.daachorse_c.specs.Held.{Held}
 use Rattle.daachorse_c.specs.Patterns.{registrations}
 use Rattle.daachorse_c.proofs.building.build.Goals as goal
 
@@ -24,4 +24,4 @@ returns-clause-built c =
       built = subst (λ (l : List (List ℕ × ℕ)). IsBuiltWith c.in_ok-kind.kind folds l s) all c.in_ok-searches.ensures.built;
       filter = c.in_ok-searches.ensures.filter ∙ ap (λ (l : List (List ℕ)). kept_filter c.args.use_prefilter (all_as_read folds l)) texts;
     } in
-    subst (IsBuiltFrom c.args.kind folds c.args.bytes.now c.args.ends.now c.args.values.now c.args.use_prefilter) (sym (ap (λ (a : Held). a.searches) c.in_ok-new.ensures.ok ∙ c.new.ensures.searches)) built
+    IfOk-weaker c.new.result _ _ (λ b e. subst (IsBuiltFrom c.args.kind folds c.args.bytes.now c.args.ends.now c.args.values.now c.args.use_prefilter) (sym e) built) c.new.ensures.searches

@@ -6,7 +6,6 @@ use Rattle.daachorse_serializer.specs.Laws.{number_law}
 use Rattle.daachorse_bytewise_states.specs.PartForms.{parts_law}
 use Rattle.daachorse_bytewise.specs.Automata.{Automaton as Searches}
 use Rattle.daachorse_bytewise.specs.ReadForms.{GivesAutomaton}
-use Rattle.daachorse_c.specs.Held.{Held}
 use Rattle.daachorse_c.specs.Written.{IsRead, form_of}
 use Rattle.daachorse_c.proofs.reading.read.Goals as goal
 
@@ -39,4 +38,4 @@ returns-in_ok-new-in-Ok-clause-read c =
           let back = c.in-Ok.ensures.back written behind is begins in
           (back.0, as_many bytes (form_of written) rest behind begins back.1);
     } in
-    subst (λ (s : Searches ℕ). IsRead bytes s (length bytes - length rest)) (sym (ap (λ (a : Held). a.searches) c.in_ok-new-in-Ok.ensures.ok ∙ c.new.ensures.searches)) read
+    subst (λ (s : Searches ℕ). IsRead bytes s (length bytes - length rest)) (sym c.in_ok-new-in-Ok.ensures.searches) read

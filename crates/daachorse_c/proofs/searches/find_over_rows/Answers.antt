@@ -1,18 +1,13 @@
--- The search's iterator gives what the search finds.
-use Rattle.std.proofs.Common.{◌≡◌, ℕ, List, ap, sym, ◌∙◌}
-use Rattle.daachorse_model.specs.declared.Match.{Match}
-use Rattle.daachorse_model.specs.Dictionary.{Dictionary}
+-- Over rows the search's iterator gives the same.
+use Rattle.std.proofs.Common.{◌≡◌}
 use Rattle.daachorse_model.specs.Units.{byte_width}
 use Rattle.daachorse_bytewise.specs.Matches.{StandsAtEnd}
 use Rattle.daachorse_bytewise.specs.LeftmostSearches.{StandsBehind}
 use Rattle.daachorse_bytewise.proofs.MatchesLaws.{YieldsList-from_progress}
-use Rattle.daachorse_c.specs.declared.search.SearchKind.{SearchKind}
 use Rattle.daachorse_c.specs.declared.search.SearchKind.TheVariants.{Find, Overlapping, NoSuffix, Leftmost}
 use Rattle.daachorse_c.specs.Searches.{found_by}
-use Rattle.daachorse_c.proofs.automaton.find_in.Goals as goal
-
-found_in : (search asked : SearchKind) (K : Dictionary ℕ) (h : List ℕ) (left : List (Match ℕ)) → asked ≡ search → left ≡ found_by search K h → left ≡ found_by asked K h
-found_in search asked K h left is e = e ∙ ap (λ s. found_by s K h) (sym is)
+use Rattle.daachorse_c.proofs.Asked.{found_in}
+use Rattle.daachorse_c.proofs.searches.find_over_rows.Goals as goal
 
 pub returns-in-Find : goal.returns-in-Find
 returns-in-Find c = c.fill.ensures.written _ (YieldsList-from_progress (StandsAtEnd byte_width) _ _ (found_in Find c.args.search _ _ _ c.in-Find.is c.find_iter.ensures.begins.left)).runs

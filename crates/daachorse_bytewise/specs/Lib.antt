@@ -21,6 +21,7 @@ pub use Rattle.daachorse_search.specs.BestScans
 pub use Rattle.daachorse_haystack.specs.Filters
 pub use Rattle.daachorse_search.specs.LeftmostSearches
 pub use Rattle.daachorse_search.specs.Matches
+pub use Rattle.daachorse_search.specs.Readers
 pub use Rattle.daachorse_haystack.specs.Readings
 pub use Rattle.daachorse_search.specs.Searches
 pub use Rattle.daachorse_search.specs.SearchViews

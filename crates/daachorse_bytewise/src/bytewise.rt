@@ -1,8 +1,9 @@
 //! The automaton over bytes.
 
-ghost use Rattle.std.specs.Prelude.{◌≡◌, ◌≢◌, ◌⊎◌, ℕ, false, true, List, [], IfOk, IfErr, OnOk, OnErr, length, map, take};
+ghost use Rattle.std.specs.Prelude.{◌≡◌, ◌≢◌, ◌⊎◌, ℕ, false, true, List, [], IfOk, IfErr, OnOk, OnErr, length, map, max, take};
 ghost use Rattle.std.specs.Iterator.{IsFinite};
 ghost use Rattle.std.specs.Iterator.Runs.{WholeRun};
+ghost use Rattle.std.specs.List.{fold};
 ghost use Rattle.std.specs.Option.{option_to_list};
 ghost use Rattle.daachorse_core.specs.Refusals.{IsOutOfMemory};
 ghost use Rattle.daachorse_model.specs.declared.MatchKind.TheVariants.{Standard};
@@ -26,8 +27,10 @@ pub mod builder;
 mod by_kind;
 pub mod iter;
 mod lookup;
+mod reader;
 mod replacing;
 pub mod states;
+mod streaming;
 mod written;
 
 pub use crate::bytewise::accelerated::{AccelerateError, Accelerated};
@@ -187,6 +190,36 @@ impl<V: Copy, A: Allocator + Copy> DoubleArrayAhoCorasick<V, A> {
         ensures err { IfErr result IsOutOfMemory }
     {
         self.states.pattern_iter(alloc)
+    }
+
+    /// Returns the number of patterns that [`Self::iter`] lists, where equal ones count each.
+    ///
+    /// It is counted anew in each call, which fails only if an allocation fails.
+    pub fn num_patterns(&self, alloc: A) -> Result<usize>
+        ensures ok { IfOk result (λ n. (listed : List (List ℕ × V)) × IsListing (dictionary_of self.now) listed × (n ≡ length listed)) }
+        ensures err { IfErr result IsOutOfMemory }
+    {
+        // A number of a fixed size might be too small, and a vector of nothing takes no memory.
+        let mut counted = Vec::new(alloc);
+        for item in self.iter(alloc)? {
+            let (_pattern, _value) = item?;
+            counted.push(())?;
+        }
+        Ok(counted.len())
+    }
+
+    /// Returns the number of bytes of the longest pattern that [`Self::iter`] lists, and 0 if there
+    /// is none. It goes over the patterns, and fails only if an allocation fails.
+    pub fn max_pattern_len(&self, alloc: A) -> Result<usize>
+        ensures ok { IfOk result (λ n. (listed : List (List ℕ × V)) × IsListing (dictionary_of self.now) listed × (n ≡ fold (λ longest r. max longest (length r.0)) 0 listed)) }
+        ensures err { IfErr result IsOutOfMemory }
+    {
+        let mut longest = 0;
+        for item in self.iter(alloc)? {
+            let (pattern, _value) = item?;
+            longest = longest.max(pattern.len());
+        }
+        Ok(longest)
     }
 
     /// Returns a copy in memory of its own. It is no `Clone::clone`, since an allocation may fail.

@@ -1,9 +1,10 @@
 //! The automaton over characters.
 
-ghost use Rattle.std.specs.Prelude.{◌≡◌, ◌≢◌, ◌⊎◌, false, true, [], IfOk, IfErr, OnOk, OnErr, IsSortedByKey, encode_utf8_all, map, take};
+ghost use Rattle.std.specs.Prelude.{◌≡◌, ◌≢◌, ◌⊎◌, ℕ, false, true, List, [], IfOk, IfErr, OnOk, OnErr, IsSortedByKey, encode_utf8_all, length, map, max, take};
 ghost use Rattle.std.specs.Cmp.Lexicographic.{slice_cmp};
 ghost use Rattle.std.specs.Iterator.{IsFinite};
 ghost use Rattle.std.specs.Iterator.Runs.{WholeRun};
+ghost use Rattle.std.specs.List.{fold};
 ghost use Rattle.std.specs.Option.{option_to_list};
 ghost use Rattle.std.specs.Ordering.{nat_cmp};
 ghost use Rattle.std.specs.Str.{chars};
@@ -29,8 +30,10 @@ mod frequencies;
 pub mod iter;
 mod lookup;
 pub mod mapper;
+mod reader;
 mod replacing;
 pub mod states;
+mod streaming;
 mod written;
 
 pub use crate::charwise::accelerated::{AccelerateError, Accelerated};
@@ -193,6 +196,36 @@ impl<V: Copy, A: Allocator + Copy> CharwiseDoubleArrayAhoCorasick<V, A> {
     {
         let walk = self.states.pattern_iter(alloc)?;
         Ok(PatternIterator { walk })
+    }
+
+    /// Returns the number of patterns that [`Self::iter`] lists, where equal ones count each.
+    ///
+    /// It is counted anew in each call, which fails only if an allocation fails.
+    pub fn num_patterns(&self, alloc: A) -> Result<usize>
+        ensures ok { IfOk result (λ n. (listed : List (List ℕ × V)) × IsListing (dictionary_of self.now) listed × (n ≡ length listed)) }
+        ensures err { IfErr result IsOutOfMemory }
+    {
+        // A number of a fixed size might be too small, and a vector of nothing takes no memory.
+        let mut counted = Vec::new(alloc);
+        for item in self.iter(alloc)? {
+            let (_pattern, _value) = item?;
+            counted.push(())?;
+        }
+        Ok(counted.len())
+    }
+
+    /// Returns the number of characters of the longest pattern that [`Self::iter`] lists, and 0 if
+    /// there is none. It goes over the patterns, and fails only if an allocation fails.
+    pub fn max_pattern_len(&self, alloc: A) -> Result<usize>
+        ensures ok { IfOk result (λ n. (listed : List (List ℕ × V)) × IsListing (dictionary_of self.now) listed × (n ≡ fold (λ longest r. max longest (length r.0)) 0 listed)) }
+        ensures err { IfErr result IsOutOfMemory }
+    {
+        let mut longest = 0;
+        for item in self.iter(alloc)? {
+            let (pattern, _value) = item?;
+            longest = longest.max(pattern.as_str().chars().count());
+        }
+        Ok(longest)
     }
 
     /// Returns a copy in memory of its own. It is no `Clone::clone`, since an allocation may fail.

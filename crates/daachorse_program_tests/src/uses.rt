@@ -1,41 +1,9 @@
-//! `daachorse_uses`, where no contract speaks: that a redactor reaches the end of a text, and what
-//! is found first in a stream.
+//! `daachorse_uses`, where no contract speaks: what is found first in a stream.
 
 use daachorse::{CharwiseDoubleArrayAhoCorasick, DoubleArrayAhoCorasick, Match};
-use daachorse_uses::redactor::redact_source;
 use daachorse_uses::stream::{first_in_characters, first_in_reader};
 use std::alloc::Global;
-use std::io;
 use std::test::Fail;
-
-// The text with the mask in place of each match of `abcd` and `bx`.
-fn redacted(alloc: Global, mask: &[u8], text: &[u8]) -> io::Result<Vec<u8>> {
-    let patterns = [b"abcd".as_slice(), b"bx"];
-    let mut words: DoubleArrayAhoCorasick<u32> = DoubleArrayAhoCorasick::new(
-        alloc, patterns,
-    ).map_err(|_| io::ErrorKind::OutOfMemory)?;
-    words
-        .cache_depths()
-        .map_err(|_| io::ErrorKind::OutOfMemory)?;
-    let mut out = Vec::new(alloc);
-    redact_source(alloc, &words, mask, text.iter().copied(), &mut out)?;
-    Ok(out)
-}
-
-#[test]
-fn a_source_is_redacted(rt: HostRuntime) -> Result<(), Fail> {
-    let out = redacted(rt.alloc(), b"--", b"abcabcdbxab")?;
-    assert!(rt;
-        out.as_slice() == b"abc----ab".as_slice(),
-        "the masked text"
-    );
-    let out = redacted(rt.alloc(), b"", b"abcdab")?;
-    assert!(rt;
-        out.as_slice() == b"ab".as_slice(),
-        "the text without its matches"
-    );
-    Ok(())
-}
 
 /// A text, the start, end and value of the match that ends first, and what is not read of the text.
 type StreamRow = (&'static str, Option<(usize, usize, u32)>, &'static str);

@@ -1,7 +1,6 @@
 -- The matches of a search by kind follow one another, where the haystack may be cut: bytes anywhere, a text behind any of its characters. So they do in a haystack that is read folded, whose cuts are those of the haystack.
 use Rattle.std.proofs.Common.{◌≡◌, ℕ, Bool, suc, ◌+◌, ◌≤◌, true, false, List, [], ◌∷◌, ◌++◌, length, sym, ap, ◌∙◌, subst, append_assoc, length-append, arith}
 use Rattle.std.proofs.lemmas.Str.{IsCharBoundary-start}
-use Rattle.std.specs.Iterator.{AlwaysYields}
 use Rattle.std.specs.List.{All}
 use Rattle.std.specs.Str.{chars, IsUtf8, IsCharBoundary}
 use Rattle.daachorse_model.specs.declared.Match.{Match}
@@ -16,8 +15,6 @@ use Rattle.daachorse_model.proofs.FoldLaws.{chars-folded, IsCharBoundary-folded,
 use Rattle.daachorse_model.proofs.Overlap.{leftmost_apart}
 use Rattle.daachorse_model.proofs.SameOnText.{cut_at}
 use Rattle.daachorse_model.proofs.Suffixes.{size-append, size-bytes}
-use Rattle.daachorse_search.specs.Matches.{GivesFirst, Progress}
-use Rattle.daachorse_search.proofs.MatchesLaws.{YieldsList-from_progress}
 use Rattle.daachorse_replacing.specs.ByKind.{non_overlapping}
 use Rattle.daachorse_replacing.specs.Replaced.{AreParts}
 use Rattle.daachorse_replacing.proofs.FirstMatches.{by_kind_occur}
@@ -26,6 +23,11 @@ module _ {V : Type 0} where
   -- a match starts and ends where the haystack may be cut
   abbrev pub IsCut : (ℕ → Type 0) → Match V → Type 0
   IsCut may_cut m = may_cut m.start × may_cut m.end
+
+  -- there the parts begin
+  pub parts_here : (may_cut : ℕ → Type 0) (s : ℕ) (ms : List (Match V)) → AreParts may_cut s ms → may_cut s
+  parts_here may_cut s [] h = h
+  parts_here may_cut s (m ∷ ms) h = h.0
 
   parts_from : (may_cut : ℕ → Type 0) (s : ℕ) (ms : List (Match V)) → may_cut s → All (IsCut may_cut) ms → Follows s ms → AreParts may_cut s ms
   parts_from may_cut s [] here all follow = here
@@ -65,23 +67,17 @@ module _ {V : Type 0} where
         parts_from (IsCharBoundary text) 0 (non_overlapping kind char_width K (chars text)) (IsCharBoundary-start text utf8)
         (λ k d lt. cut_text text utf8 _ (by_kind_occur char_width K kind (chars text) k d lt)) (by_kind_apart kind char_width (chars text))
 
-    pub parts_of_bytes : (folds : Bool) (kind : MatchKind) (h : List ℕ) → AreParts (λ i. i ≤ length h) 0 (non_overlapping kind byte_width K (as_read folds h))
-    parts_of_bytes folds kind h =
-        let P : ℕ → Type 0 = λ n. AreParts (λ i. i ≤ n) 0 (non_overlapping kind byte_width K (as_read folds h)) in
-        subst P (length-as_read folds h) (in_bytes kind (as_read folds h))
-
-    pub parts_of_text : (folds : Bool) (kind : MatchKind) (text : List ℕ) → IsUtf8 text → AreParts (IsCharBoundary text) 0 (non_overlapping kind char_width K (as_read folds (chars text)))
-    parts_of_text true kind text utf8 =
+    in_read_text : (folds : Bool) (kind : MatchKind) (text : List ℕ) → IsUtf8 text → AreParts (IsCharBoundary text) 0 (non_overlapping kind char_width K (as_read folds (chars text)))
+    in_read_text true kind text utf8 =
         let P : List ℕ → Type 0 = λ units. AreParts (IsCharBoundary text) 0 (non_overlapping kind char_width K units) in
         subst P (chars-folded text utf8)
         (parts_where (IsCharBoundary (folded text)) (IsCharBoundary text) (λ i cut. (IsCharBoundary-folded text i).0 cut) 0 (non_overlapping kind char_width K (chars (folded text))) (in_text kind (folded text) (IsUtf8-folded text utf8)))
-    parts_of_text false kind text utf8 = in_text kind text utf8
+    in_read_text false kind text utf8 = in_text kind text utf8
 
--- a search that has these matches left gives them, and no others
-pub gives_left : {V A F : Type 0} (stands : Match V → List ℕ → List ℕ → Type 0) (s : Progress V A F) (ms : List (Match V)) → s.left ≡ ms → AlwaysYields (GivesFirst stands) (λ m. m) s ms
-gives_left stands s ms is = (YieldsList-from_progress stands s ms is).runs
+    pub parts_of_bytes : (folds : Bool) (kind : MatchKind) (h : List ℕ) (ms : List (Match V)) → ms ≡ non_overlapping kind byte_width K (as_read folds h) → AreParts (λ i. i ≤ length h) 0 ms
+    parts_of_bytes folds kind h ms is =
+        let P : ℕ → Type 0 = λ n. AreParts (λ i. i ≤ n) 0 (non_overlapping kind byte_width K (as_read folds h)) in
+        subst (λ (l : List (Match V)). AreParts (λ i. i ≤ length h) 0 l) (sym is) (subst P (length-as_read folds h) (in_bytes kind (as_read folds h)))
 
--- they are parts of the haystack, where the matches left are
-pub gives_parts : {V A F : Type 0} (may_cut : ℕ → Type 0) (stands : Match V → List ℕ → List ℕ → Type 0) (s : Progress V A F) (ms : List (Match V)) → s.left ≡ ms → AreParts may_cut 0 ms
-    → (all : List (Match V)) × AlwaysYields (GivesFirst stands) (λ m. m) s all × AreParts may_cut 0 all
-gives_parts may_cut stands s ms is parts = (ms, gives_left stands s ms is, parts)
+    pub parts_of_text : (folds : Bool) (kind : MatchKind) (text : List ℕ) → IsUtf8 text → (ms : List (Match V)) → ms ≡ non_overlapping kind char_width K (as_read folds (chars text)) → AreParts (IsCharBoundary text) 0 ms
+    parts_of_text folds kind text utf8 ms is = subst (λ (l : List (Match V)). AreParts (IsCharBoundary text) 0 l) (sym is) (in_read_text folds kind text utf8)

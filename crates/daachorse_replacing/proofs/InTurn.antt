@@ -1,5 +1,5 @@
 -- What comes of the matches that are left, behind what was written for those before them.
-use Rattle.std.proofs.Common.{◌≡◌, ◌⊎◌, inl, inr, ℕ, ◌-◌, List, [], ◌∷◌, ◌++◌, length, take, drop, Option, Result, Ok, Err, sym, ap, ◌∙◌, subst, append_assoc, append-nil}
+use Rattle.std.proofs.Common.{◌≡◌, inl, inr, ℕ, ◌-◌, List, [], ◌∷◌, length, take, drop, Option, Result, Ok, Err, sym, ap, ◌∙◌, subst}
 use Rattle.std.proofs.lemmas.List.{take_rest}
 use Rattle.std.specs.Prelude.{slice_range}
 use Rattle.std.specs.Borrow.{MutBor}
@@ -9,43 +9,48 @@ use Rattle.daachorse_replacing.specs.Replaced.{AppendsBeginning}
 use Rattle.daachorse_replacing.specs.ReplacedWith.{IsReplaced, IsReplacedFrom, IsReplacedSoFar, IsReplacedSoFarFrom, MayWrite}
 
 -- the part up to the end is what is left
-rest_is : (haystack : List ℕ) (s end : ℕ) → end ≡ length haystack → slice_range haystack s end ≡ drop s haystack
+pub rest_is : (haystack : List ℕ) (s end : ℕ) → end ≡ length haystack → slice_range haystack s end ≡ drop s haystack
 rest_is haystack s end e = ap (λ k. take (k - s) (drop s haystack)) e ∙ take_rest haystack s
 
-module _ {V P O E F : Type 0} (bytes : P → List ℕ) (taken : O → Option (List ℕ)) (haystack : List ℕ) (step : F → Match V → P → MutBor O → Result (Unit {0}) E → MutBor O → F → Type 0) (first : F) (old : O) where
-  abbrev Whole : List (Match V) → O → Type 0
-  Whole ms new = IsReplaced bytes taken haystack step ms first old new
+-- from f and this output at s on, whatever comes of the matches that are left comes of all matches from the start
+pub record LeadsTo {V P O E F : Type 0} (bytes : P → List ℕ) (taken : O → Option (List ℕ)) (haystack : List ℕ) (step : F → Match V → P → MutBor O → Result (Unit {0}) E → MutBor O → F → Type 0) (whole : List (Match V)) (first : F) (old : O)
+    (s : ℕ) (ms : List (Match V)) (f : F) (out : O) : Type 0 where
+  pub all : (new : O) → IsReplacedFrom bytes taken haystack step s ms f out new → IsReplaced bytes taken haystack step whole first old new
+  pub some : (new : O) → IsReplacedSoFarFrom bytes taken haystack step s ms f out new → IsReplacedSoFar bytes taken haystack step whole first old new
 
-  abbrev SoFar : List (Match V) → O → Type 0
-  SoFar ms new = IsReplacedSoFar bytes taken haystack step ms first old new
+module _ {V P O E F : Type 0} {bytes : P → List ℕ} {taken : O → Option (List ℕ)} {haystack : List ℕ} {step : F → Match V → P → MutBor O → Result (Unit {0}) E → MutBor O → F → Type 0} {whole ms : List (Match V)} {first f : F} {old out : O} {s : ℕ}
+    (h : LeadsTo bytes taken haystack step whole first old s ms f out) where
+  abbrev SoFar : O → Type 0
+  SoFar new = IsReplacedSoFar bytes taken haystack step whole first old new
 
-  -- from f and this output at s on, whatever comes of more matches comes of those before and more from the start
-  pub record LeadsTo (done : List (Match V)) (s : ℕ) (f : F) (out : O) : Type 0 where
-    pub all : (ms : List (Match V)) (new : O) → IsReplacedFrom bytes taken haystack step s ms f out new → Whole (done ++ ms) new
-    pub some : (ms : List (Match V)) (new : O) → IsReplacedSoFarFrom bytes taken haystack step s ms f out new → SoFar (done ++ ms) new
+  module _ (m : Match V) (rest : List (Match V)) (is : ms ≡ m ∷ rest) where
+    next_all : (new : O) → IsReplacedFrom bytes taken haystack step s (m ∷ rest) f out new → IsReplaced bytes taken haystack step whole first old new
+    next_all new went = h.all new (subst (λ (l : List (Match V)). IsReplacedFrom bytes taken haystack step s l f out new) (sym is) went)
 
-  module _ (done : List (Match V)) (s : ℕ) (f : F) (out : O) (h : LeadsTo done s f out) where
-    pub leads_on : (m : Match V) (at next : O) (g : F) → Appends (taken out) (taken at) (slice_range haystack s m.start)
-        → MayWrite bytes taken haystack step f m at (Ok tt) next g → LeadsTo (done ++ m ∷ []) m.end g next
-    leads_on m at next g before call = record {
-      all = λ ms new rest. subst (λ (l : List (Match V)). Whole l new) (sym (append_assoc done (m ∷ []) ms)) (h.all (m ∷ ms) new (at, next, g, before, call, rest));
-      some = λ ms new rest. subst (λ (l : List (Match V)). SoFar l new) (sym (append_assoc done (m ∷ []) ms)) (h.some (m ∷ ms) new (inr (at, before, inr (next, g, call, rest))));
+    next_some : (new : O) → IsReplacedSoFarFrom bytes taken haystack step s (m ∷ rest) f out new → SoFar new
+    next_some new went = h.some new (subst (λ (l : List (Match V)). IsReplacedSoFarFrom bytes taken haystack step s l f out new) (sym is) went)
+
+    pub leads_on : (at next : O) (g : F) → Appends (taken out) (taken at) (slice_range haystack s m.start)
+        → MayWrite bytes taken haystack step f m at (Ok tt) next g → LeadsTo bytes taken haystack step whole first old m.end rest g next
+    leads_on at next g before call = record {
+      all = λ new went. next_all new (at, next, g, before, call, went);
+      some = λ new went. next_some new (inr (at, before, inr (next, g, call, went)));
     }
 
     -- the output took a beginning of the bytes up to the next match
-    pub stops_before : (m : Match V) (rest all : List (Match V)) (new : O) → all ≡ done ++ m ∷ rest → AppendsBeginning (taken out) (taken new) (slice_range haystack s m.start) → SoFar all new
-    stops_before m rest all new is part = subst (λ (l : List (Match V)). SoFar l new) (sym is) (h.some (m ∷ rest) new (inl part))
+    pub stops_before : (new : O) → AppendsBeginning (taken out) (taken new) (slice_range haystack s m.start) → SoFar new
+    stops_before new part = next_some new (inl part)
 
     -- the call for the next match returned an error
-    pub stops_at : (m : Match V) (rest all : List (Match V)) (at new : O) (e : E) (g : F) → all ≡ done ++ m ∷ rest → Appends (taken out) (taken at) (slice_range haystack s m.start)
-        → MayWrite bytes taken haystack step f m at (Err e) new g → SoFar all new
-    stops_at m rest all at new e g is before call = subst (λ (l : List (Match V)). SoFar l new) (sym is) (h.some (m ∷ rest) new (inr (at, before, inl (e, g, call))))
+    pub stops_at : (at new : O) (e : E) (g : F) → Appends (taken out) (taken at) (slice_range haystack s m.start) → MayWrite bytes taken haystack step f m at (Err e) new g → SoFar new
+    stops_at at new e g before call = next_some new (inr (at, before, inl (e, g, call)))
 
+  module _ (none : ms ≡ []) (end : ℕ) (new : O) (e : end ≡ length haystack) where
     -- the output took what is left, or a beginning of it
-    pub stops_behind : (all : List (Match V)) (end : ℕ) (new : O) → all ≡ done → end ≡ length haystack → AppendsBeginning (taken out) (taken new) (slice_range haystack s end) → SoFar all new
-    stops_behind all end new is e part =
-        subst (λ (l : List (Match V)). SoFar l new) (append-nil done ∙ sym is) (h.some [] new (subst (AppendsBeginning (taken out) (taken new)) (rest_is haystack s end e) part))
+    pub stops_behind : AppendsBeginning (taken out) (taken new) (slice_range haystack s end) → SoFar new
+    stops_behind part =
+        h.some new (subst (λ (l : List (Match V)). IsReplacedSoFarFrom bytes taken haystack step s l f out new) (sym none) (subst (AppendsBeginning (taken out) (taken new)) (rest_is haystack s end e) part))
 
-    pub ends : (all : List (Match V)) (end : ℕ) (new : O) → all ≡ done → end ≡ length haystack → Appends (taken out) (taken new) (slice_range haystack s end) → Whole all new
-    ends all end new is e part =
-        subst (λ (l : List (Match V)). Whole l new) (append-nil done ∙ sym is) (h.all [] new (subst (Appends (taken out) (taken new)) (rest_is haystack s end e) part))
+    pub ends : Appends (taken out) (taken new) (slice_range haystack s end) → IsReplaced bytes taken haystack step whole first old new
+    ends part =
+        h.all new (subst (λ (l : List (Match V)). IsReplacedFrom bytes taken haystack step s l f out new) (sym none) (subst (Appends (taken out) (taken new)) (rest_is haystack s end e) part))

@@ -1,7 +1,14 @@
 pub mod Parts
 pub mod Sending
 pub mod InTurn
+pub mod Pieces
 pub mod Appended
 pub mod FirstMatches
 pub mod Cuts
 pub mod Exact
+pub mod LeadsOn
+pub mod StandardMatches
+pub mod SentLaws
+pub mod GoesLaws
+pub mod ReadLaws
+pub mod LongestLaws

@@ -16,3 +16,7 @@ Appends-more a b c whole sent rest n e p q =
 pub AppendsBeginning-more : (a b c : Option (List ℕ)) (all sent piece more : List ℕ) → all ≡ sent ++ (piece ++ more) → Appends a b sent → AppendsBeginning b c piece → AppendsBeginning a c all
 AppendsBeginning-more a b c all sent piece more e p q =
     (sent ++ q.0, q.1 ++ more, e ∙ ap (λ l. sent ++ (l ++ more)) q.2 ∙ simp append_assoc, Appends-trans a b c sent q.0 p q.3)
+
+-- after one piece a beginning of the next was taken
+pub AppendsBeginning-behind : (a b c : Option (List ℕ)) (sent piece : List ℕ) → Appends a b sent → AppendsBeginning b c piece → AppendsBeginning a c (sent ++ piece)
+AppendsBeginning-behind a b c sent piece p q = (sent ++ q.0, q.1, ap (λ l. sent ++ l) q.2 ∙ sym (append_assoc sent q.0 q.1), Appends-trans a b c sent q.0 p q.3)

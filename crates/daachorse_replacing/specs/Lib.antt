@@ -1,3 +1,4 @@
 pub mod ByKind
 pub mod Replaced
 pub mod ReplacedWith
+pub mod Streams

@@ -2,6 +2,8 @@
 #![tactic(auto)]
 
 pub mod appending;
+pub mod listed;
 pub mod piece;
 pub mod replacing;
-pub mod writing;
+pub mod spelled;
+pub mod streaming;

@@ -1,12 +1,12 @@
-//! The loop that replaces matches.
+//! The loops that replace matches.
 
-ghost use Rattle.std.specs.Prelude.{◌≡◌, ◌≤◌, ℕ, List, OnErr, OnOk, length};
-ghost use Rattle.std.specs.Iterator.{AlwaysYields, IsFinite};
+ghost use Rattle.std.specs.Prelude.{◌≡◌, ℕ, List, OnErr, OnOk};
 ghost use Rattle.std.specs.Io.KnownBytes.{Appends};
-ghost use Rattle.daachorse_model.specs.declared.Match.{Match};
 ghost use Rattle.daachorse_replacing.specs.Replaced.{AppendsBeginning, AreParts, OfReplaced, OfReplacedSoFar};
+ghost use Rattle.daachorse_replacing.specs.ReplacedWith.{IsReplaced, IsReplacedSoFar};
 
 use crate::appending::Appending;
+use crate::listed::Listed;
 use crate::piece::Piece;
 use daachorse_model::Match;
 
@@ -14,25 +14,21 @@ use daachorse_model::Match;
 /// the output refuses, it has taken a prefix of that.
 ///
 /// # Conditions
-/// The matches come to an end, follow one another, and start and end where the haystack may be cut.
+/// The matches follow one another, and start and end where the haystack may be cut.
 /// The replacement may be called at any match.
 #[inline]
 pub fn replace<
     V: Copy,
     P: Piece,
-    I: Iterator<Item = Match<V>> + Drop,
-    F: Fn(Match<V>, P) -> P,
+    I: Listed<V>,
+    F: Fn(Match<V>, P) -> P + Drop,
     O,
     A: Appending<P, O>,
->(haystack: P, matches: I, replacement: &F, out: &mut O) -> Result<(), A::Error>
-    requires can { I.can_next matches }
-    requires ends { IsFinite (I.remaining matches) }
-    requires callable { F.IsAlwaysCallable replacement.now }
-    requires parts { (all : List (Match V)) × AlwaysYields I.next_gives (λ m. m) matches all × AreParts (P.may_cut haystack) 0 all }
-    ensures whole { OnOk result ((all : List (Match V)) → AlwaysYields I.next_gives (λ m. m) matches all
-        → OfReplaced P.bytes (P.bytes haystack) (F.post replacement.now) all (Appends (A.taken out.old) (A.taken out.new))) }
-    ensures beginning { OnErr result ((all : List (Match V)) → AlwaysYields I.next_gives (λ m. m) matches all
-        → OfReplacedSoFar P.bytes (P.bytes haystack) (F.post replacement.now) all (AppendsBeginning (A.taken out.old) (A.taken out.new))) }
+>(haystack: P, matches: I, out: &mut O, replacement: F) -> Result<(), A::Error>
+    requires callable { F.IsAlwaysCallable replacement }
+    requires parts { AreParts (P.may_cut haystack) 0 (I.left matches) }
+    ensures whole { OnOk result (OfReplaced P.bytes (P.bytes haystack) (F.post replacement) (I.left matches) (Appends (A.taken out.old) (A.taken out.new))) }
+    ensures beginning { OnErr result (OfReplacedSoFar P.bytes (P.bytes haystack) (F.post replacement) (I.left matches) (AppendsBeginning (A.taken out.old) (A.taken out.new))) }
 {
     let mut place = 0;
     for found in matches {
@@ -42,4 +38,34 @@ pub fn replace<
         place = found.end;
     }
     A::append(out, haystack.part(place, haystack.end()))
+}
+
+/// Puts out the haystack, in place of each match what `write` appends for it and its text. Stops
+/// at the first refusal, of the output or of `write`.
+///
+/// # Conditions
+/// The matches follow one another, and start and end where the haystack may be cut.
+/// The closure may be called at any match and any output.
+#[inline]
+pub fn replace_with<
+    V: Copy,
+    P: Piece,
+    I: Listed<V>,
+    O,
+    A: Appending<P, O>,
+    F: FnMut(Match<V>, P, &mut O) -> Result<(), A::Error> + Drop,
+>(haystack: P, matches: I, out: &mut O, mut write: F) -> Result<(), A::Error>
+    requires callable { F.IsAlwaysCallable write }
+    requires parts { AreParts (P.may_cut haystack) 0 (I.left matches) }
+    ensures whole { OnOk result (IsReplaced P.bytes A.taken (P.bytes haystack) F.step (I.left matches) write out.old out.new) }
+    ensures beginning { OnErr result (IsReplacedSoFar P.bytes A.taken (P.bytes haystack) F.step (I.left matches) write out.old out.new) }
+{
+    let mut written = 0;
+    for found in matches {
+        A::append(out, haystack.part(written, found.start))?;
+        let matched = haystack.part(found.start, found.end);
+        write(found, matched, out)?;
+        written = found.end;
+    }
+    A::append(out, haystack.part(written, haystack.end()))
 }

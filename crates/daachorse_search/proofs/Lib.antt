@@ -14,3 +14,5 @@ pub mod AfreshLaws
 pub mod SkipLaws
 pub mod GivenLaws
 pub mod PieceLaws
+pub mod ReaderLaws
+pub mod CharacterLaws

@@ -4,6 +4,8 @@ pub mod Nothing
 pub mod Scans
 pub mod Stepwise
 pub mod Searches
+pub mod Readers
+pub mod CharacterReaders
 pub mod SearchViews
 pub mod Finds
 pub mod Matches

@@ -91,6 +91,14 @@ where
         }
     }
 
+    /// The source, from where the search stands.
+    #[inline(always)]
+    pub fn into_source(self) -> S
+        ensures { result ≡ self.source }
+    {
+        self.source
+    }
+
     /// Does nothing. Its contract bounds the turns.
     #[inline(always)]
     pub fn turns_are_bounded(&self)

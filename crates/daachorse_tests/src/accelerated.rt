@@ -2,6 +2,7 @@
 
 use crate::automata::{Automaton, Bytewise, Charwise};
 use crate::expect;
+use crate::replaced::{bracket, bracket_text, instead, instead_of_text, write_bracketed};
 use crate::rows::{BUILT, FOLDING, Search, Way};
 use daachorse::{DoubleArrayAhoCorasick, MatchKind, Result};
 use std::alloc::Global;
@@ -107,5 +108,84 @@ fn what_begins_no_pattern_is_passed_over(rt: HostRuntime) -> Result<(), Fail> {
         finds_by_buckets::<Charwise>(alloc, FOLDING, text)?,
         "folded characters",
     );
+    Ok(())
+}
+
+/// Whether an automaton over bytes with rows replaces, lists and tells what it does without.
+fn keeps_calls(alloc: Global) -> Result<bool> {
+    let patvals = [("ab", 0), ("abcd", 1), ("cd", 2)];
+    let automaton = Bytewise::built(alloc, FOLDING, MatchKind::LeftmostLongest, &patvals)?;
+    let Ok(rows) = automaton.accelerate(alloc) else {
+        return Ok(false);
+    };
+    let haystack = b"xABcdab".as_slice();
+    let replaced = rows.replace_all(alloc, haystack, instead)?;
+    let mut written = Vec::new(alloc);
+    let is_written = rows
+        .replace_all_into(haystack, instead, &mut written)
+        .is_ok();
+    let mut bracketed = Vec::new(alloc);
+    rows.replace_all_with(
+        haystack,
+        &mut bracketed,
+        |_found, part, out| bracket(part, out),
+    )?;
+    let mut brackets = Vec::new(alloc);
+    let is_bracketed = rows
+        .replace_all_into_with(haystack, &mut brackets, write_bracketed)
+        .is_ok();
+    let is_replaced = is_written && replaced.as_slice() == b"x-".as_slice() && written == replaced;
+    let is_in_brackets = is_bracketed
+        && bracketed.as_slice() == b"x[ABcd][ab]".as_slice()
+        && brackets == bracketed;
+    let is_told = rows.match_kind() == MatchKind::LeftmostLongest
+        && rows.is_ascii_case_insensitive()
+        && rows.num_states() == 7
+        && rows.iter(alloc)?.next().is_some();
+    Ok(is_replaced && is_in_brackets && is_told)
+}
+
+/// The same over characters.
+fn keeps_calls_in_text(alloc: Global) -> Result<bool> {
+    let patvals = [("世", 0), ("世界", 1)];
+    let automaton = Charwise::built(alloc, FOLDING, MatchKind::LeftmostLongest, &patvals)?;
+    let Ok(rows) = automaton.accelerate(alloc) else {
+        return Ok(false);
+    };
+    let haystack = "A世界世";
+    let replaced = rows.replace_all(alloc, haystack, instead_of_text)?;
+    let mut written = Vec::new(alloc);
+    let is_written = rows
+        .replace_all_into(haystack, instead_of_text, &mut written)
+        .is_ok();
+    let mut bracketed = String::new(alloc);
+    rows.replace_all_with(
+        haystack,
+        &mut bracketed,
+        |_found, part, out| bracket_text(part, out),
+    )?;
+    let mut brackets = Vec::new(alloc);
+    let is_bracketed = rows
+        .replace_all_into_with(haystack, &mut brackets, |found, part, out| {
+            write_bracketed(found, part.as_bytes(), out)
+        })
+        .is_ok();
+    let is_replaced = is_written
+        && replaced.as_str() == "A-"
+        && written.as_slice() == replaced.as_bytes();
+    let is_in_brackets = is_bracketed
+        && bracketed.as_str() == "A[世界][世]"
+        && brackets.as_slice() == bracketed.as_bytes();
+    let is_told = rows.match_kind() == MatchKind::LeftmostLongest
+        && rows.is_ascii_case_insensitive()
+        && rows.num_states() == 3
+        && rows.iter(alloc)?.next().is_some();
+    Ok(is_replaced && is_in_brackets && is_told)
+}
+
+#[test]
+fn rows_keep_other_calls(rt: HostRuntime) -> Result<(), Fail> {
+    expect(&rt, keeps_calls(rt.alloc())?, "bytes");
+    expect(&rt, keeps_calls_in_text(rt.alloc())?, "characters");
     Ok(())
 }

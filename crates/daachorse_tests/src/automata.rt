@@ -69,7 +69,7 @@ pub trait SearchedInBytes {
 
     /// Whether a search that reads the bytes from an iterator returns exactly these matches, or
     /// there is no such search.
-    fn finds_in_source_of_bytes(&self, search: Search, haystack: &[u8], expected: &[Found]) -> bool;
+    fn finds_in_byte_source(&self, search: Search, haystack: &[u8], expected: &[Found]) -> bool;
 
     /// Whether a stepper reports exactly these matches, and these depths before the first byte and
     /// after each, or there is no such stepper. If `depths` is empty, the stepper must have none.
@@ -90,7 +90,7 @@ pub fn finds_of_bytes<S: SearchedInBytes>(
     expected: &[Found],
 ) -> bool {
     searched.finds_in_bytes(search, haystack, expected)
-        && searched.finds_in_source_of_bytes(search, haystack, expected)
+        && searched.finds_in_byte_source(search, haystack, expected)
         && searched.finds_by_steps_of_bytes(search, haystack, expected, &[])
 }
 

@@ -28,12 +28,7 @@ impl<A: Allocator + Copy> SearchedInBytes for Bytewise<A> {
         }
     }
 
-    fn finds_in_source_of_bytes(
-        &self,
-        search: Search,
-        haystack: &[u8],
-        expected: &[Found],
-    ) -> bool {
+    fn finds_in_byte_source(&self, search: Search, haystack: &[u8], expected: &[Found]) -> bool {
         if !self.match_kind().is_standard() {
             return true;
         }
@@ -74,39 +69,6 @@ impl<A: Allocator + Copy> SearchedInBytes for Bytewise<A> {
 }
 
 impl<A: Allocator + Copy> SearchedInBytes for Accelerated<u32, A> {
-    fn finds_in_bytes(&self, search: Search, haystack: &[u8], expected: &[Found]) -> bool {
-        if !self.automaton().match_kind().is_standard() {
-            return gives_leftmost(self.leftmost_find_iter(haystack), expected);
-        }
-        match search {
-            Search::Overlapping => gives(self.find_overlapping_iter(haystack), expected),
-            Search::NoSuffix => gives(self.find_overlapping_no_suffix_iter(haystack), expected),
-            Search::Standard => gives(self.find_iter(haystack), expected),
-            Search::Leftmost(_) => false,
-        }
-    }
-
-    fn finds_in_source_of_bytes(
-        &self,
-        search: Search,
-        haystack: &[u8],
-        expected: &[Found],
-    ) -> bool {
-        if !self.automaton().match_kind().is_standard() {
-            return true;
-        }
-        let source = haystack.iter().copied();
-        match search {
-            Search::Overlapping => are(self.find_overlapping_iter_from_iter(source), expected),
-            Search::NoSuffix => are(
-                self.find_overlapping_no_suffix_iter_from_iter(source),
-                expected,
-            ),
-            Search::Standard => are(self.find_iter_from_iter(source), expected),
-            Search::Leftmost(_) => false,
-        }
-    }
-
     fn finds_by_steps_of_bytes(
         &self,
         search: Search,
@@ -129,6 +91,34 @@ impl<A: Allocator + Copy> SearchedInBytes for Accelerated<u32, A> {
             _ => true,
         }
     }
+
+    fn finds_in_bytes(&self, search: Search, haystack: &[u8], expected: &[Found]) -> bool {
+        if !self.automaton().match_kind().is_standard() {
+            return gives_leftmost(self.leftmost_find_iter(haystack), expected);
+        }
+        match search {
+            Search::Overlapping => gives(self.find_overlapping_iter(haystack), expected),
+            Search::NoSuffix => gives(self.find_overlapping_no_suffix_iter(haystack), expected),
+            Search::Standard => gives(self.find_iter(haystack), expected),
+            Search::Leftmost(_) => false,
+        }
+    }
+
+    fn finds_in_byte_source(&self, search: Search, haystack: &[u8], expected: &[Found]) -> bool {
+        if !self.automaton().match_kind().is_standard() {
+            return true;
+        }
+        let source = haystack.iter().copied();
+        match search {
+            Search::Overlapping => are(self.find_overlapping_iter_from_iter(source), expected),
+            Search::NoSuffix => are(
+                self.find_overlapping_no_suffix_iter_from_iter(source),
+                expected,
+            ),
+            Search::Standard => are(self.find_iter_from_iter(source), expected),
+            Search::Leftmost(_) => false,
+        }
+    }
 }
 
 impl<A: Allocator + Copy> Searched for Bytewise<A> {
@@ -139,7 +129,7 @@ impl<A: Allocator + Copy> Searched for Bytewise<A> {
     }
 
     fn finds_in_source(&self, search: Search, text: &str, expected: &[Found]) -> bool {
-        self.finds_in_source_of_bytes(search, text.as_bytes(), expected)
+        self.finds_in_byte_source(search, text.as_bytes(), expected)
     }
 
     fn finds_by_steps(
@@ -162,7 +152,7 @@ impl<A: Allocator + Copy> Searched for Accelerated<u32, A> {
     }
 
     fn finds_in_source(&self, search: Search, text: &str, expected: &[Found]) -> bool {
-        self.finds_in_source_of_bytes(search, text.as_bytes(), expected)
+        self.finds_in_byte_source(search, text.as_bytes(), expected)
     }
 
     fn finds_by_steps(

@@ -77,6 +77,31 @@ impl<A: Allocator + Copy> Searched for Charwise<A> {
 impl<A: Allocator + Copy> Searched for Accelerated<u32, A> {
     type Alloc = A;
 
+    fn finds_by_steps(
+        &self,
+        alloc: A,
+        search: Search,
+        text: &str,
+        expected: &[Found],
+        depths: &[u32],
+    ) -> Result<bool> {
+        if !self.automaton().match_kind().is_standard() {
+            return Ok(true);
+        }
+        let units = characters(alloc, text)?;
+        match search {
+            Search::Overlapping => {
+                let mut stepper = self.find_overlapping_stepper();
+                Ok(are_found_overlapping(&mut stepper, &units, expected, depths))
+            }
+            Search::Standard => {
+                let mut stepper = self.find_stepper();
+                Ok(are_found(&mut stepper, &units, expected, depths))
+            }
+            _ => Ok(true),
+        }
+    }
+
     fn finds_in_slice(&self, search: Search, text: &str, expected: &[Found]) -> bool {
         if !self.automaton().match_kind().is_standard() {
             return gives_leftmost(self.leftmost_find_iter(text), expected);
@@ -103,31 +128,6 @@ impl<A: Allocator + Copy> Searched for Accelerated<u32, A> {
             ),
             Search::Standard => are(self.find_iter_from_iter(source), expected),
             Search::Leftmost(_) => false,
-        }
-    }
-
-    fn finds_by_steps(
-        &self,
-        alloc: A,
-        search: Search,
-        text: &str,
-        expected: &[Found],
-        depths: &[u32],
-    ) -> Result<bool> {
-        if !self.automaton().match_kind().is_standard() {
-            return Ok(true);
-        }
-        let units = characters(alloc, text)?;
-        match search {
-            Search::Overlapping => {
-                let mut stepper = self.find_overlapping_stepper();
-                Ok(are_found_overlapping(&mut stepper, &units, expected, depths))
-            }
-            Search::Standard => {
-                let mut stepper = self.find_stepper();
-                Ok(are_found(&mut stepper, &units, expected, depths))
-            }
-            _ => Ok(true),
         }
     }
 }

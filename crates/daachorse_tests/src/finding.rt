@@ -14,6 +14,7 @@ use daachorse_search::matches::Matches;
 use daachorse_search::overlapping_stepper::FindOverlappingStepper;
 use daachorse_search::step_unit::StepUnit;
 use daachorse_search::stepwise::Stepwise;
+use std::io::{self, ErrorKind};
 use std::slice::Iter;
 
 /// The start, the end and the value of a match.
@@ -79,6 +80,32 @@ pub fn are<I: Iterator<Item = Match<u32>> + Drop>(matches: I, expected: &[Found]
     let mut expected = Expected::new(expected, &[]);
     expected.take_all(matches);
     expected.is_met()
+}
+
+/// Whether a search over a reader gives these matches, in this order, then this error, if there is
+/// one, and nothing after it.
+pub fn are_read<I: Iterator<Item = io::Result<Match<u32>>> + Drop>(
+    items: I,
+    expected: &[Found],
+    error: Option<ErrorKind>,
+) -> bool
+    requires can { I.can_next items }
+    requires ends { IsFinite (I.remaining items) }
+{
+    let mut expected = Expected::new(expected, &[]);
+    let mut failure = None;
+    for item in items {
+        if failure.is_some() {
+            return false;
+        }
+        match item {
+            Ok(found) => {
+                expected.take(found);
+            }
+            Err(error) => failure = Some(error.kind()),
+        }
+    }
+    expected.is_met() && failure == error
 }
 
 /// Whether these are the expected values, in this order.

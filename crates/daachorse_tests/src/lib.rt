@@ -25,6 +25,8 @@ mod plain;
 #[cfg(test)]
 mod raw_bytes;
 #[cfg(test)]
+mod readers;
+#[cfg(test)]
 mod replaced;
 #[cfg(test)]
 mod requests;
@@ -36,6 +38,8 @@ mod rows;
 mod searches;
 #[cfg(test)]
 mod steppers;
+#[cfg(test)]
+mod streams;
 #[cfg(test)]
 mod written;
 

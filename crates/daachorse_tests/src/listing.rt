@@ -149,6 +149,36 @@ fn patterns_are_listed_in_byte_order(rt: HostRuntime) -> Result<(), Fail> {
     Ok(())
 }
 
+/// Whether automata of these patterns list so many, the longest of so many bytes and characters.
+fn are_counted(
+    alloc: Global,
+    patvals: Patvals,
+    number: usize,
+    bytes: usize,
+    characters: usize,
+) -> Result<bool> {
+    let over_bytes = Bytewise::built(alloc, BUILT, MatchKind::Standard, patvals)?;
+    let over_characters = Charwise::built(alloc, BUILT, MatchKind::Standard, patvals)?;
+    Ok(
+        over_bytes.num_patterns(alloc)? == number
+            && over_bytes.max_pattern_len(alloc)? == bytes
+            && over_characters.num_patterns(alloc)? == number
+            && over_characters.max_pattern_len(alloc)? == characters,
+    )
+}
+
+#[test]
+fn patterns_are_counted(rt: HostRuntime) -> Result<(), Fail> {
+    let patvals = &[("ab", 0), ("世", 1), ("ab", 2)];
+    expect(
+        &rt,
+        are_counted(rt.alloc(), patvals, 3, 3, 2)?,
+        "equal patterns",
+    );
+    expect(&rt, are_counted(rt.alloc(), &[], 0, 0, 0)?, "no patterns");
+    Ok(())
+}
+
 /// What a row shows, a way, a kind, patterns, and the summaries over bytes and over characters.
 type Summary = (
     &'static str,

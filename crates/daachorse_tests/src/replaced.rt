@@ -91,9 +91,9 @@ pub fn write_bracketed<W: Write>(found: Match<u32>, part: &[u8], out: &mut W) ->
 
 /// A writer that takes one byte a call, and fails if there is no room.
 #[derive(Drop)]
-struct Narrow {
-    room: usize,
-    taken: Vec<u8>,
+pub struct Narrow {
+    pub room: usize,
+    pub taken: Vec<u8>,
 }
 
 impl Write for Narrow {
@@ -115,7 +115,7 @@ impl Write for Narrow {
 }
 
 /// Whether a writer took as much of the text as it had room for, and failed if that is not all.
-fn is_beginning(outcome: io::Result<()>, writer: &Narrow, room: usize, whole: &[u8]) -> bool {
+pub fn is_beginning(outcome: io::Result<()>, writer: &Narrow, room: usize, whole: &[u8]) -> bool {
     let taken = room.min(whole.len());
     writer.taken[..] == whole[..taken] && outcome.is_ok() == (taken == whole.len())
 }

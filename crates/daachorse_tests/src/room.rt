@@ -41,7 +41,7 @@ const OVER_CHARACTERS: [Row; 4] = [
     (
         "a filter",
         &[
-            0, 0, 0, 0, 0, 0, 0, 0, 0, 0, 0, 0, 0, 0, 0, 0, // The lists and the size of the alphabet.
+            0, 0, 0, 0, 0, 0, 0, 0, 0, 0, 0, 0, 0, 0, 0, 0, // The lists, and how many codes.
             0, 1, 0, 0, 0, // The kind and the number of states.
             1, 4, 255,
         ],

@@ -15,7 +15,8 @@ use std::test::Fail;
 fn is_first(found: Option<Match<u32>>, expected: &[Found]) -> bool {
     match (found, expected.first()) {
         (Some(found), Some((start, end, value))) => {
-            found.start() == *start && found.end() == *end && found.value() == *value
+            let range = found.range();
+            range.start == *start && range.end == *end && found.value() == *value
         }
         (None, None) => true,
         _ => false,

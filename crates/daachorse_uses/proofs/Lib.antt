@@ -2,4 +2,3 @@ pub mod Covers
 pub mod Lookups
 pub mod Marks
 pub mod Readings
-pub mod Redactions

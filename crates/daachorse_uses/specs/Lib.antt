@@ -1,3 +1,2 @@
 pub mod Covered
 pub mod Ratings
-pub mod Redacted

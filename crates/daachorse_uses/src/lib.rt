@@ -5,7 +5,6 @@ pub mod highlight;
 pub mod lookup;
 pub mod rating;
 pub mod redact;
-pub mod redactor;
 pub mod rules;
 pub mod stream;
 pub mod words;

@@ -7,6 +7,7 @@ ghost use Rattle.daachorse_model.specs.declared.MatchKind.TheVariants.{Standard}
 ghost use Rattle.daachorse_model.specs.Folding.{as_read};
 ghost use Rattle.daachorse_model.specs.Leftmost.{leftmost};
 ghost use Rattle.daachorse_model.specs.Matches.{matches_after, no_suffix, overlapping, standard, standard_after};
+ghost use Rattle.daachorse_model.specs.Prefixes.{HasPrefixes, IsListing};
 ghost use Rattle.daachorse_model.specs.Units.{byte_width};
 ghost use Rattle.daachorse_search.specs.Beginnings.{BeginsFrom, BeginsStepping, BeginsWith};
 ghost use Rattle.daachorse_haystack.specs.Filters.{IsSoundFor};
@@ -21,9 +22,10 @@ ghost use Rattle.daachorse_bytewise.specs.Standings.{IsFindStandingOver, IsOverl
 use crate::bytewise::iter::{
     FindIterator, FindOverlappingIterator, FindOverlappingNoSuffixIterator,
     FindOverlappingNoSuffixSliceIterator, FindOverlappingSliceIterator, FindOverlappingStepper,
-    FindSliceIterator, FindStepper, LeftmostFindIterator,
+    FindSliceIterator, FindStepper, LeftmostFindIterator, PatternIterator,
 };
 use crate::bytewise::{DoubleArrayAhoCorasick, states};
+use daachorse_core::MatchKind;
 use daachorse_core::errors::{DaachorseError, Result};
 use daachorse_haystack::haystack::Bytes;
 use daachorse_haystack::source;
@@ -88,7 +90,7 @@ impl<V: Copy, A: Allocator + Copy> DoubleArrayAhoCorasick<V, A> {
     ///
     /// With a prefilter and no pattern of less than three bytes, searches in a slice also ask eight
     /// buckets of patterns, unless the shortest has six bytes and there are fewer than 1,024
-    /// states. The rows take at most 256 KiB and two bytes for each element, and the buckets 64 KiB.
+    /// states. The rows take at most 256 KiB and two bytes an element, and the buckets 64 KiB.
     pub fn accelerate(self, alloc: A) -> Result<Accelerated<V, A>, AccelerateError<Self>>
         ensures automaton { IfOk result (λ a. a.automaton ≡ self) }
         ensures covered { IfOk result HasRowsNear }
@@ -177,6 +179,16 @@ impl<V: Copy, A: Allocator> DoubleArrayAhoCorasick<V, A> {
     }
 }
 
+impl<V: Copy, A: Allocator + Copy> Accelerated<V, A> {
+    /// As [`DoubleArrayAhoCorasick::iter`].
+    pub fn iter<'s>(&'s self, alloc: A) -> Result<PatternIterator<'s, V, A>>
+        ensures ok { IfOk result (λ patterns. IsListing (dictionary_of self.entry.now.automaton) patterns) }
+        ensures err { IfErr result IsOutOfMemory }
+    {
+        self.automaton().iter(alloc)
+    }
+}
+
 impl<V: Copy, A: Allocator> Accelerated<V, A> {
     /// Returns the automaton without its rows.
     pub fn into_automaton(self) -> DoubleArrayAhoCorasick<V, A>
@@ -197,9 +209,30 @@ impl<V: Copy, A: Allocator> Accelerated<V, A> {
         &self.automaton
     }
 
+    /// As [`DoubleArrayAhoCorasick::match_kind`].
+    pub fn match_kind(&self) -> MatchKind
+        ensures { result ≡ kind_of self.now.automaton }
+    {
+        self.automaton().match_kind()
+    }
+
+    /// As [`DoubleArrayAhoCorasick::is_ascii_case_insensitive`].
+    pub fn is_ascii_case_insensitive(&self) -> bool
+        ensures { result ≡ self.now.automaton.folds }
+    {
+        self.automaton().is_ascii_case_insensitive()
+    }
+
+    /// As [`DoubleArrayAhoCorasick::num_states`].
+    pub fn num_states(&self) -> usize
+        ensures { HasPrefixes (dictionary_of self.now.automaton) result }
+    {
+        self.automaton().num_states()
+    }
+
     /// The states and their rows as standard searches see them.
     #[inline(always)]
-    fn standard<'s>(&'s self) -> RowedStandard<'s, V>
+    pub(super) fn standard<'s>(&'s self) -> RowedStandard<'s, V>
         requires { kind_of self.now.automaton ≡ Standard }
         ensures { result ≡ rowed_states self.entry.now }
     {

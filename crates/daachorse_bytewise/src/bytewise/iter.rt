@@ -12,7 +12,9 @@ use daachorse_search::find::FindWalk;
 use daachorse_search::leftmost::LeftmostMatches;
 use daachorse_search::matches::Matches;
 use daachorse_search::matches_from::MatchesFrom;
+use daachorse_search::matches_from_reader::MatchesFromReader;
 use daachorse_search::overlapping::{NoSuffixWalk, OverlappingWalk};
+use daachorse_search::reader::ReadBytes;
 use daachorse_search::{find_stepper, overlapping_stepper};
 use std::alloc::Global;
 
@@ -31,6 +33,13 @@ pub type FindIterator<'a, P, V, S = Standard<'a, V>> = MatchesFrom<
     source::Bytes<P>,
 >;
 
+/// The iterator of `find_iter_from_reader`: non-overlapping matches in what a reader gives.
+pub type FindReaderIterator<'a, R, V, S = Standard<'a, V>> = MatchesFromReader<
+    V,
+    FindWalk<V, S>,
+    ReadBytes<R>,
+>;
+
 /// The iterator of `find_overlapping_iter`: all matches in a slice, by rising ends.
 pub type FindOverlappingSliceIterator<'a, V, A = Global, S = Standard<'a, V>> = Matches<
     V,
@@ -46,6 +55,13 @@ pub type FindOverlappingIterator<'a, P, V, S = Standard<'a, V>> = MatchesFrom<
     source::Bytes<P>,
 >;
 
+/// The iterator of `find_overlapping_iter_from_reader`: all matches in what a reader gives.
+pub type FindOverlappingReaderIterator<'a, R, V, S = Standard<'a, V>> = MatchesFromReader<
+    V,
+    OverlappingWalk<V, S>,
+    ReadBytes<R>,
+>;
+
 /// The iterator of `find_overlapping_no_suffix_iter`: the longest match at each end in a slice.
 pub type FindOverlappingNoSuffixSliceIterator<'a, V, A = Global, S = Standard<'a, V>> = Matches<
     V,
@@ -59,6 +75,13 @@ pub type FindOverlappingNoSuffixIterator<'a, P, V, S = Standard<'a, V>> = Matche
     V,
     NoSuffixWalk<V, S>,
     source::Bytes<P>,
+>;
+
+/// The iterator of `find_overlapping_no_suffix_iter_from_reader`: the longest match at each end.
+pub type FindOverlappingNoSuffixReaderIterator<'a, R, V, S = Standard<'a, V>> = MatchesFromReader<
+    V,
+    NoSuffixWalk<V, S>,
+    ReadBytes<R>,
 >;
 
 /// The iterator of `leftmost_find_iter`: non-overlapping matches in a slice, by earliest start.

@@ -10,12 +10,11 @@ ghost use Rattle.daachorse_replacing.specs.Replaced.{AppendsBeginning, OfReplace
 ghost use Rattle.daachorse_replacing.specs.ReplacedWith.{IsReplaced, IsReplacedSoFar};
 ghost use Rattle.daachorse_bytewise.specs.Automata.{dictionary_of, kind_of};
 
-use super::DoubleArrayAhoCorasick;
+use super::{Accelerated, DoubleArrayAhoCorasick};
+use daachorse_core::Match;
 use daachorse_core::errors::Result;
-use daachorse_core::{Match, MatchKind};
 use daachorse_replacing::appending::{Appending, ToWriter};
-use daachorse_replacing::replacing::replace;
-use daachorse_replacing::writing::replace_with;
+use daachorse_replacing::replacing::{replace, replace_with};
 use std::alloc::Allocator;
 use std::io::{self, Write};
 
@@ -23,9 +22,9 @@ impl<V: Copy, A: Allocator> DoubleArrayAhoCorasick<V, A> {
     /// Returns the haystack with each match replaced by what `replacement` returns for it.
     ///
     /// `replacement` also gets the part of the haystack that matched. The matches are those of
-    /// [`Self::find_iter`] for [`MatchKind::Standard`], and of [`Self::leftmost_find_iter`] for
-    /// another kind. Of `ab` and `b`, both replaced by `-`, `abxb` becomes `-x-`. The rest keeps
-    /// its case in any search. Fails only if an allocation fails.
+    /// [`Self::find_iter`] for [`MatchKind::Standard`](daachorse_core::MatchKind::Standard), and of
+    /// [`Self::leftmost_find_iter`] for another kind. Of `ab` and `b`, both replaced by `-`, `abxb`
+    /// becomes `-x-`. The rest keeps its case in any search. Fails only if an allocation fails.
     pub fn replace_all<'h, F: Fn(Match<V>, &'h [u8]) -> &'h [u8] + Drop, B: Allocator>(
         &self,
         alloc: B,
@@ -38,7 +37,8 @@ impl<V: Copy, A: Allocator> DoubleArrayAhoCorasick<V, A> {
         ensures err { IfErr result IsOutOfMemory }
     {
         let mut out = Vec::new(alloc);
-        self.replace_by_kind::<F, Vec<u8, B>, Vec<u8, B>>(haystack, &replacement, &mut out)?;
+        let matches = self.non_overlapping(haystack);
+        replace::<_, _, _, F, _, Vec<u8, B>>(haystack, matches, &mut out, replacement)?;
         Ok(out)
     }
 
@@ -58,7 +58,8 @@ impl<V: Copy, A: Allocator> DoubleArrayAhoCorasick<V, A> {
         ensures beginning { OnErr result (OfReplacedSoFar (λ s. s.now) haystack.now (F.post replacement) (non_overlapping (kind_of self.now) byte_width (dictionary_of self.now) (as_read self.now.folds haystack.now))
             (AppendsBeginning (W.contents out.old) (W.contents out.new))) }
     {
-        self.replace_by_kind::<F, W, ToWriter>(haystack, &replacement, out)
+        let matches = self.non_overlapping(haystack);
+        replace::<_, _, _, F, W, ToWriter>(haystack, matches, out, replacement)
     }
 
     /// Appends the haystack to `out`, and in place of each match what `write` appends for it.
@@ -76,7 +77,8 @@ impl<V: Copy, A: Allocator> DoubleArrayAhoCorasick<V, A> {
         ensures whole { OnOk result (IsReplaced (λ s. s.now) O.taken haystack.now F.step (non_overlapping (kind_of self.now) byte_width (dictionary_of self.now) (as_read self.now.folds haystack.now)) write out.old out.new) }
         ensures beginning { OnErr result (IsReplacedSoFar (λ s. s.now) O.taken haystack.now F.step (non_overlapping (kind_of self.now) byte_width (dictionary_of self.now) (as_read self.now.folds haystack.now)) write out.old out.new) }
     {
-        self.replace_with_by_kind::<O, O, F>(haystack, out, write)
+        let matches = self.non_overlapping(haystack);
+        replace_with::<_, _, _, O, O, F>(haystack, matches, out, write)
     }
 
     /// Does what [`Self::replace_all_with`] does with a writer, in as many writes as it needs. The
@@ -90,52 +92,72 @@ impl<V: Copy, A: Allocator> DoubleArrayAhoCorasick<V, A> {
         ensures whole { OnOk result (IsReplaced (λ s. s.now) W.contents haystack.now F.step (non_overlapping (kind_of self.now) byte_width (dictionary_of self.now) (as_read self.now.folds haystack.now)) write out.old out.new) }
         ensures beginning { OnErr result (IsReplacedSoFar (λ s. s.now) W.contents haystack.now F.step (non_overlapping (kind_of self.now) byte_width (dictionary_of self.now) (as_read self.now.folds haystack.now)) write out.old out.new) }
     {
-        self.replace_with_by_kind::<W, ToWriter, F>(haystack, out, write)
+        let matches = self.non_overlapping(haystack);
+        replace_with::<_, _, _, W, ToWriter, F>(haystack, matches, out, write)
+    }
+}
+
+impl<V: Copy, A: Allocator> Accelerated<V, A> {
+    /// As [`DoubleArrayAhoCorasick::replace_all`], over rows.
+    pub fn replace_all<'h, F: Fn(Match<V>, &'h [u8]) -> &'h [u8] + Drop, B: Allocator>(
+        &self,
+        alloc: B,
+        haystack: &'h [u8],
+        replacement: F,
+    ) -> Result<Vec<u8, B>>
+        requires callable { F.IsAlwaysCallable replacement }
+        ensures ok { IfOk result (λ v. OfReplaced (λ s. s.now) haystack.now (F.post replacement) (non_overlapping (kind_of self.now.automaton) byte_width (dictionary_of self.now.automaton) (as_read self.now.automaton.folds haystack.now))
+            (λ text. v.items ≡ text)) }
+        ensures err { IfErr result IsOutOfMemory }
+    {
+        let mut out = Vec::new(alloc);
+        let matches = self.non_overlapping(haystack);
+        replace::<_, _, _, F, _, Vec<u8, B>>(haystack, matches, &mut out, replacement)?;
+        Ok(out)
     }
 
-    fn replace_by_kind<'h, F: Fn(Match<V>, &'h [u8]) -> &'h [u8], O, T: Appending<&'h [u8], O>>(
+    /// As [`DoubleArrayAhoCorasick::replace_all_into`], over rows.
+    pub fn replace_all_into<'h, F: Fn(Match<V>, &'h [u8]) -> &'h [u8] + Drop, W: Write>(
         &self,
         haystack: &'h [u8],
-        replacement: &F,
-        out: &mut O,
-    ) -> Result<(), T::Error>
-        requires callable { F.IsAlwaysCallable replacement.now }
-        ensures whole { OnOk result (OfReplaced (λ s. s.now) haystack.now (F.post replacement.now) (non_overlapping (kind_of self.now) byte_width (dictionary_of self.now) (as_read self.now.folds haystack.now))
-            (Appends (T.taken out.old) (T.taken out.new))) }
-        ensures beginning { OnErr result (OfReplacedSoFar (λ s. s.now) haystack.now (F.post replacement.now) (non_overlapping (kind_of self.now) byte_width (dictionary_of self.now) (as_read self.now.folds haystack.now))
-            (AppendsBeginning (T.taken out.old) (T.taken out.new))) }
+        replacement: F,
+        out: &mut W,
+    ) -> io::Result<()>
+        requires callable { F.IsAlwaysCallable replacement }
+        ensures whole { OnOk result (OfReplaced (λ s. s.now) haystack.now (F.post replacement) (non_overlapping (kind_of self.now.automaton) byte_width (dictionary_of self.now.automaton) (as_read self.now.automaton.folds haystack.now))
+            (Appends (W.contents out.old) (W.contents out.new))) }
+        ensures beginning { OnErr result (OfReplacedSoFar (λ s. s.now) haystack.now (F.post replacement) (non_overlapping (kind_of self.now.automaton) byte_width (dictionary_of self.now.automaton) (as_read self.now.automaton.folds haystack.now))
+            (AppendsBeginning (W.contents out.old) (W.contents out.new))) }
     {
-        match self.match_kind() {
-            MatchKind::Standard => {
-                let matches = self.find_iter(haystack);
-                replace::<_, _, _, F, O, T>(haystack, matches, replacement, out)
-            }
-            MatchKind::LeftmostLongest | MatchKind::LeftmostFirst => {
-                let matches = self.leftmost_find_iter(haystack);
-                replace::<_, _, _, F, O, T>(haystack, matches, replacement, out)
-            }
-        }
+        let matches = self.non_overlapping(haystack);
+        replace::<_, _, _, F, W, ToWriter>(haystack, matches, out, replacement)
     }
 
-    fn replace_with_by_kind<
+    /// As [`DoubleArrayAhoCorasick::replace_all_with`], over rows.
+    pub fn replace_all_with<
         'h,
-        O,
-        T: Appending<&'h [u8], O>,
-        F: FnMut(Match<V>, &'h [u8], &mut O) -> Result<(), T::Error> + Drop,
-    >(&self, haystack: &'h [u8], out: &mut O, write: F) -> Result<(), T::Error>
+        O: Appending<&'h [u8], O>,
+        F: FnMut(Match<V>, &'h [u8], &mut O) -> Result<(), O::Error> + Drop,
+    >(&self, haystack: &'h [u8], out: &mut O, write: F) -> Result<(), O::Error>
         requires callable { F.IsAlwaysCallable write }
-        ensures whole { OnOk result (IsReplaced (λ s. s.now) T.taken haystack.now F.step (non_overlapping (kind_of self.now) byte_width (dictionary_of self.now) (as_read self.now.folds haystack.now)) write out.old out.new) }
-        ensures beginning { OnErr result (IsReplacedSoFar (λ s. s.now) T.taken haystack.now F.step (non_overlapping (kind_of self.now) byte_width (dictionary_of self.now) (as_read self.now.folds haystack.now)) write out.old out.new) }
+        ensures whole { OnOk result (IsReplaced (λ s. s.now) O.taken haystack.now F.step (non_overlapping (kind_of self.now.automaton) byte_width (dictionary_of self.now.automaton) (as_read self.now.automaton.folds haystack.now)) write out.old out.new) }
+        ensures beginning { OnErr result (IsReplacedSoFar (λ s. s.now) O.taken haystack.now F.step (non_overlapping (kind_of self.now.automaton) byte_width (dictionary_of self.now.automaton) (as_read self.now.automaton.folds haystack.now)) write out.old out.new) }
     {
-        match self.match_kind() {
-            MatchKind::Standard => {
-                let matches = self.find_iter(haystack);
-                replace_with::<_, _, _, O, T, F>(haystack, matches, out, write)
-            }
-            MatchKind::LeftmostLongest | MatchKind::LeftmostFirst => {
-                let matches = self.leftmost_find_iter(haystack);
-                replace_with::<_, _, _, O, T, F>(haystack, matches, out, write)
-            }
-        }
+        let matches = self.non_overlapping(haystack);
+        replace_with::<_, _, _, O, O, F>(haystack, matches, out, write)
+    }
+
+    /// As [`DoubleArrayAhoCorasick::replace_all_into_with`], over rows.
+    pub fn replace_all_into_with<
+        'h,
+        W: Write,
+        F: FnMut(Match<V>, &'h [u8], &mut W) -> io::Result<()> + Drop,
+    >(&self, haystack: &'h [u8], out: &mut W, write: F) -> io::Result<()>
+        requires callable { F.IsAlwaysCallable write }
+        ensures whole { OnOk result (IsReplaced (λ s. s.now) W.contents haystack.now F.step (non_overlapping (kind_of self.now.automaton) byte_width (dictionary_of self.now.automaton) (as_read self.now.automaton.folds haystack.now)) write out.old out.new) }
+        ensures beginning { OnErr result (IsReplacedSoFar (λ s. s.now) W.contents haystack.now F.step (non_overlapping (kind_of self.now.automaton) byte_width (dictionary_of self.now.automaton) (as_read self.now.automaton.folds haystack.now)) write out.old out.new) }
+    {
+        let matches = self.non_overlapping(haystack);
+        replace_with::<_, _, _, W, ToWriter, F>(haystack, matches, out, write)
     }
 }

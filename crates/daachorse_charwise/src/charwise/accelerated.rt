@@ -1,29 +1,34 @@
 //! An automaton over characters with rows of the states near its root, for faster searches.
 
-ghost use Rattle.std.specs.Prelude.{◌≡◌, ◌≢◌, [], IfOk, IfSome, IfErr, encode_utf8_all, take};
+ghost use Rattle.std.specs.Prelude.{◌≡◌, ◌≢◌, [], IfOk, IfSome, IfErr, IsSortedByKey, encode_utf8_all, take};
+ghost use Rattle.std.specs.Cmp.Lexicographic.{slice_cmp};
 ghost use Rattle.std.specs.Option.{option_to_list};
+ghost use Rattle.std.specs.Ordering.{nat_cmp};
 ghost use Rattle.std.specs.Str.{chars};
 ghost use Rattle.daachorse_core.specs.Refusals.{IsOutOfMemory};
 ghost use Rattle.daachorse_model.specs.declared.MatchKind.TheVariants.{Standard};
 ghost use Rattle.daachorse_model.specs.Folding.{as_read};
 ghost use Rattle.daachorse_model.specs.Leftmost.{leftmost};
 ghost use Rattle.daachorse_model.specs.Matches.{matches_after, no_suffix, overlapping, standard, standard_after};
+ghost use Rattle.daachorse_model.specs.Prefixes.{HasPrefixes, IsListing};
 ghost use Rattle.daachorse_model.specs.Units.{char_width};
 ghost use Rattle.daachorse_search.specs.Beginnings.{BeginsFrom, BeginsStepping, BeginsWith};
 ghost use Rattle.daachorse_haystack.specs.Filters.{IsSoundFor};
 ghost use Rattle.daachorse_prefilter.specs.Asked.{BeginsAskingBoth, lets_pass};
 ghost use Rattle.daachorse_prefilter.specs.Buckets.{MayTell, may_begin};
 ghost use Rattle.daachorse_charwise_states.specs.StateRows.{HasFewCodes, HasNoRoom};
+ghost use Rattle.daachorse_charwise_states.specs.Texts.{AreTexts};
 ghost use Rattle.daachorse_charwise.specs.Accelerated.{HasRowsNear, IsAllRowsUnlessLarge, MayTellBuckets, rowed_states};
 ghost use Rattle.daachorse_charwise.specs.Automata.{dictionary_of, kind_of, states_of};
 
 use crate::charwise::iter::{
     FindIterator, FindOverlappingIterator, FindOverlappingNoSuffixIterator,
     FindOverlappingNoSuffixSliceIterator, FindOverlappingSliceIterator, FindOverlappingStepper,
-    FindSliceIterator, FindStepper, LeftmostFindIterator,
+    FindSliceIterator, FindStepper, LeftmostFindIterator, PatternIterator,
 };
 use crate::charwise::{CharwiseDoubleArrayAhoCorasick, states};
 use daachorse_charwise_states::for_rows::ForRows;
+use daachorse_core::MatchKind;
 use daachorse_core::errors::{DaachorseError, Result};
 use daachorse_haystack::decoding::Decoded;
 use daachorse_haystack::text::Text;
@@ -79,9 +84,9 @@ impl<V: Copy, A: Allocator + Copy> CharwiseDoubleArrayAhoCorasick<V, A> {
     /// Makes rows of the states near the root, for faster searches.
     ///
     /// Each prefix of at most two characters that are ASCII or among the 510 most frequent of the
-    /// patterns gets a row. If there is no room for these, or an allocation fails, the error has the
-    /// automaton. Longer prefixes get rows while there is room. A row has three slots and one for
-    /// each of these characters, rounded up to a multiple of four, and the 126,336 slots are at
+    /// patterns gets a row. If there is no room for these, or an allocation fails, the error has
+    /// the automaton. Longer prefixes get rows while there is room. A row has three slots and one
+    /// for each of these characters, rounded up to a multiple of four, and the 126,336 slots are at
     /// least 196 rows.
     ///
     /// Use it to search much text for up to some thousand words of few different characters. With
@@ -89,7 +94,7 @@ impl<V: Copy, A: Allocator + Copy> CharwiseDoubleArrayAhoCorasick<V, A> {
     ///
     /// With a prefilter and no pattern of less than three bytes, searches in a text also ask eight
     /// buckets of patterns, unless the shortest has six bytes and there are fewer than 1,024
-    /// states. The rows take at most 256 KiB and two bytes for each element, and the buckets 64 KiB.
+    /// states. The rows take at most 256 KiB and two bytes an element, and the buckets 64 KiB.
     pub fn accelerate(self, alloc: A) -> Result<Accelerated<V, A>, AccelerateError<Self>>
         ensures automaton { IfOk result (λ a. a.automaton ≡ self) }
         ensures covered { IfOk result HasRowsNear }
@@ -179,6 +184,18 @@ impl<V: Copy, A: Allocator> CharwiseDoubleArrayAhoCorasick<V, A> {
     }
 }
 
+impl<V: Copy, A: Allocator + Copy> Accelerated<V, A> {
+    /// As [`CharwiseDoubleArrayAhoCorasick::iter`].
+    pub fn iter<'s>(&'s self, alloc: A) -> Result<PatternIterator<'s, V, A>>
+        ensures ok { IfOk result (λ patterns. IsListing (dictionary_of self.entry.now.automaton) patterns) }
+        ensures texts { IfOk result AreTexts }
+        ensures by_bytes { IfOk result (IsSortedByKey (λ r. encode_utf8_all r.0) (slice_cmp nat_cmp)) }
+        ensures err { IfErr result IsOutOfMemory }
+    {
+        self.automaton().iter(alloc)
+    }
+}
+
 impl<V: Copy, A: Allocator> Accelerated<V, A> {
     /// Returns the automaton without its rows.
     pub fn into_automaton(self) -> CharwiseDoubleArrayAhoCorasick<V, A>
@@ -199,9 +216,30 @@ impl<V: Copy, A: Allocator> Accelerated<V, A> {
         &self.automaton
     }
 
+    /// As [`CharwiseDoubleArrayAhoCorasick::match_kind`].
+    pub fn match_kind(&self) -> MatchKind
+        ensures { result ≡ kind_of self.now.automaton }
+    {
+        self.automaton().match_kind()
+    }
+
+    /// As [`CharwiseDoubleArrayAhoCorasick::is_ascii_case_insensitive`].
+    pub fn is_ascii_case_insensitive(&self) -> bool
+        ensures { result ≡ self.now.automaton.folds }
+    {
+        self.automaton().is_ascii_case_insensitive()
+    }
+
+    /// As [`CharwiseDoubleArrayAhoCorasick::num_states`].
+    pub fn num_states(&self) -> usize
+        ensures { HasPrefixes (dictionary_of self.now.automaton) result }
+    {
+        self.automaton().num_states()
+    }
+
     /// The states and their rows as standard searches see them.
     #[inline(always)]
-    fn standard<'s>(&'s self) -> RowedStandard<'s, V>
+    pub(super) fn standard<'s>(&'s self) -> RowedStandard<'s, V>
         requires { kind_of self.now.automaton ≡ Standard }
         ensures { result ≡ rowed_states self.entry.now }
     {

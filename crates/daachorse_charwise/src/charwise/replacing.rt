@@ -12,12 +12,11 @@ ghost use Rattle.daachorse_replacing.specs.Replaced.{AppendsBeginning, OfReplace
 ghost use Rattle.daachorse_replacing.specs.ReplacedWith.{IsReplaced, IsReplacedSoFar};
 ghost use Rattle.daachorse_charwise.specs.Automata.{dictionary_of, kind_of};
 
-use super::CharwiseDoubleArrayAhoCorasick;
+use super::{Accelerated, CharwiseDoubleArrayAhoCorasick};
+use daachorse_core::Match;
 use daachorse_core::errors::Result;
-use daachorse_core::{Match, MatchKind};
 use daachorse_replacing::appending::{Appending, ToWriter};
-use daachorse_replacing::replacing::replace;
-use daachorse_replacing::writing::replace_with;
+use daachorse_replacing::replacing::{replace, replace_with};
 use std::alloc::Allocator;
 use std::io::{self, Write};
 
@@ -25,9 +24,9 @@ impl<V: Copy, A: Allocator> CharwiseDoubleArrayAhoCorasick<V, A> {
     /// Returns the haystack with each match replaced by what `replacement` returns for it.
     ///
     /// `replacement` also gets the part of the haystack that matched. The matches are those of
-    /// [`Self::find_iter`] for [`MatchKind::Standard`], and of [`Self::leftmost_find_iter`] for
-    /// another kind. Of `ab` and `b`, both replaced by `-`, `abxb` becomes `-x-`. The rest keeps
-    /// its case in any search. Fails only if an allocation fails.
+    /// [`Self::find_iter`] for [`MatchKind::Standard`](daachorse_core::MatchKind::Standard), and of
+    /// [`Self::leftmost_find_iter`] for another kind. Of `ab` and `b`, both replaced by `-`, `abxb`
+    /// becomes `-x-`. The rest keeps its case in any search. Fails only if an allocation fails.
     pub fn replace_all<'h, F: Fn(Match<V>, &'h str) -> &'h str + Drop, B: Allocator>(
         &self,
         alloc: B,
@@ -40,7 +39,8 @@ impl<V: Copy, A: Allocator> CharwiseDoubleArrayAhoCorasick<V, A> {
         ensures err { IfErr result IsOutOfMemory }
     {
         let mut out = String::new(alloc);
-        self.replace_by_kind::<F, String<B>, String<B>>(haystack, &replacement, &mut out)?;
+        let matches = self.non_overlapping(haystack);
+        replace::<_, _, _, F, _, String<B>>(haystack, matches, &mut out, replacement)?;
         Ok(out)
     }
 
@@ -60,7 +60,8 @@ impl<V: Copy, A: Allocator> CharwiseDoubleArrayAhoCorasick<V, A> {
         ensures beginning { OnErr result (OfReplacedSoFar (λ s. s.now) haystack.now (F.post replacement) (non_overlapping (kind_of self.now) char_width (dictionary_of self.now) (as_read self.now.folds (chars haystack.now)))
             (AppendsBeginning (W.contents out.old) (W.contents out.new))) }
     {
-        self.replace_by_kind::<F, W, ToWriter>(haystack, &replacement, out)
+        let matches = self.non_overlapping(haystack);
+        replace::<_, _, _, F, W, ToWriter>(haystack, matches, out, replacement)
     }
 
     /// Appends the haystack to `out`, and in place of each match what `write` appends for it.
@@ -78,7 +79,8 @@ impl<V: Copy, A: Allocator> CharwiseDoubleArrayAhoCorasick<V, A> {
         ensures whole { OnOk result (IsReplaced (λ s. s.now) O.taken haystack.now F.step (non_overlapping (kind_of self.now) char_width (dictionary_of self.now) (as_read self.now.folds (chars haystack.now))) write out.old out.new) }
         ensures beginning { OnErr result (IsReplacedSoFar (λ s. s.now) O.taken haystack.now F.step (non_overlapping (kind_of self.now) char_width (dictionary_of self.now) (as_read self.now.folds (chars haystack.now))) write out.old out.new) }
     {
-        self.replace_with_by_kind::<O, O, F>(haystack, out, write)
+        let matches = self.non_overlapping(haystack);
+        replace_with::<_, _, _, O, O, F>(haystack, matches, out, write)
     }
 
     /// Does what [`Self::replace_all_with`] does with a writer, in as many writes as it needs. The
@@ -92,52 +94,72 @@ impl<V: Copy, A: Allocator> CharwiseDoubleArrayAhoCorasick<V, A> {
         ensures whole { OnOk result (IsReplaced (λ s. s.now) W.contents haystack.now F.step (non_overlapping (kind_of self.now) char_width (dictionary_of self.now) (as_read self.now.folds (chars haystack.now))) write out.old out.new) }
         ensures beginning { OnErr result (IsReplacedSoFar (λ s. s.now) W.contents haystack.now F.step (non_overlapping (kind_of self.now) char_width (dictionary_of self.now) (as_read self.now.folds (chars haystack.now))) write out.old out.new) }
     {
-        self.replace_with_by_kind::<W, ToWriter, F>(haystack, out, write)
+        let matches = self.non_overlapping(haystack);
+        replace_with::<_, _, _, W, ToWriter, F>(haystack, matches, out, write)
+    }
+}
+
+impl<V: Copy, A: Allocator> Accelerated<V, A> {
+    /// As [`CharwiseDoubleArrayAhoCorasick::replace_all`], over rows.
+    pub fn replace_all<'h, F: Fn(Match<V>, &'h str) -> &'h str + Drop, B: Allocator>(
+        &self,
+        alloc: B,
+        haystack: &'h str,
+        replacement: F,
+    ) -> Result<String<B>>
+        requires callable { F.IsAlwaysCallable replacement }
+        ensures ok { IfOk result (λ s. OfReplaced (λ s. s.now) haystack.now (F.post replacement) (non_overlapping (kind_of self.now.automaton) char_width (dictionary_of self.now.automaton) (as_read self.now.automaton.folds (chars haystack.now)))
+            (λ text. string_bytes s ≡ text)) }
+        ensures err { IfErr result IsOutOfMemory }
+    {
+        let mut out = String::new(alloc);
+        let matches = self.non_overlapping(haystack);
+        replace::<_, _, _, F, _, String<B>>(haystack, matches, &mut out, replacement)?;
+        Ok(out)
     }
 
-    fn replace_by_kind<'h, F: Fn(Match<V>, &'h str) -> &'h str, O, T: Appending<&'h str, O>>(
+    /// As [`CharwiseDoubleArrayAhoCorasick::replace_all_into`], over rows.
+    pub fn replace_all_into<'h, F: Fn(Match<V>, &'h str) -> &'h str + Drop, W: Write>(
         &self,
         haystack: &'h str,
-        replacement: &F,
-        out: &mut O,
-    ) -> Result<(), T::Error>
-        requires callable { F.IsAlwaysCallable replacement.now }
-        ensures whole { OnOk result (OfReplaced (λ s. s.now) haystack.now (F.post replacement.now) (non_overlapping (kind_of self.now) char_width (dictionary_of self.now) (as_read self.now.folds (chars haystack.now)))
-            (Appends (T.taken out.old) (T.taken out.new))) }
-        ensures beginning { OnErr result (OfReplacedSoFar (λ s. s.now) haystack.now (F.post replacement.now) (non_overlapping (kind_of self.now) char_width (dictionary_of self.now) (as_read self.now.folds (chars haystack.now)))
-            (AppendsBeginning (T.taken out.old) (T.taken out.new))) }
+        replacement: F,
+        out: &mut W,
+    ) -> io::Result<()>
+        requires callable { F.IsAlwaysCallable replacement }
+        ensures whole { OnOk result (OfReplaced (λ s. s.now) haystack.now (F.post replacement) (non_overlapping (kind_of self.now.automaton) char_width (dictionary_of self.now.automaton) (as_read self.now.automaton.folds (chars haystack.now)))
+            (Appends (W.contents out.old) (W.contents out.new))) }
+        ensures beginning { OnErr result (OfReplacedSoFar (λ s. s.now) haystack.now (F.post replacement) (non_overlapping (kind_of self.now.automaton) char_width (dictionary_of self.now.automaton) (as_read self.now.automaton.folds (chars haystack.now)))
+            (AppendsBeginning (W.contents out.old) (W.contents out.new))) }
     {
-        match self.match_kind() {
-            MatchKind::Standard => {
-                let matches = self.find_iter(haystack);
-                replace::<_, _, _, F, O, T>(haystack, matches, replacement, out)
-            }
-            MatchKind::LeftmostLongest | MatchKind::LeftmostFirst => {
-                let matches = self.leftmost_find_iter(haystack);
-                replace::<_, _, _, F, O, T>(haystack, matches, replacement, out)
-            }
-        }
+        let matches = self.non_overlapping(haystack);
+        replace::<_, _, _, F, W, ToWriter>(haystack, matches, out, replacement)
     }
 
-    fn replace_with_by_kind<
+    /// As [`CharwiseDoubleArrayAhoCorasick::replace_all_with`], over rows.
+    pub fn replace_all_with<
         'h,
-        O,
-        T: Appending<&'h str, O>,
-        F: FnMut(Match<V>, &'h str, &mut O) -> Result<(), T::Error> + Drop,
-    >(&self, haystack: &'h str, out: &mut O, write: F) -> Result<(), T::Error>
+        O: Appending<&'h str, O>,
+        F: FnMut(Match<V>, &'h str, &mut O) -> Result<(), O::Error> + Drop,
+    >(&self, haystack: &'h str, out: &mut O, write: F) -> Result<(), O::Error>
         requires callable { F.IsAlwaysCallable write }
-        ensures whole { OnOk result (IsReplaced (λ s. s.now) T.taken haystack.now F.step (non_overlapping (kind_of self.now) char_width (dictionary_of self.now) (as_read self.now.folds (chars haystack.now))) write out.old out.new) }
-        ensures beginning { OnErr result (IsReplacedSoFar (λ s. s.now) T.taken haystack.now F.step (non_overlapping (kind_of self.now) char_width (dictionary_of self.now) (as_read self.now.folds (chars haystack.now))) write out.old out.new) }
+        ensures whole { OnOk result (IsReplaced (λ s. s.now) O.taken haystack.now F.step (non_overlapping (kind_of self.now.automaton) char_width (dictionary_of self.now.automaton) (as_read self.now.automaton.folds (chars haystack.now))) write out.old out.new) }
+        ensures beginning { OnErr result (IsReplacedSoFar (λ s. s.now) O.taken haystack.now F.step (non_overlapping (kind_of self.now.automaton) char_width (dictionary_of self.now.automaton) (as_read self.now.automaton.folds (chars haystack.now))) write out.old out.new) }
     {
-        match self.match_kind() {
-            MatchKind::Standard => {
-                let matches = self.find_iter(haystack);
-                replace_with::<_, _, _, O, T, F>(haystack, matches, out, write)
-            }
-            MatchKind::LeftmostLongest | MatchKind::LeftmostFirst => {
-                let matches = self.leftmost_find_iter(haystack);
-                replace_with::<_, _, _, O, T, F>(haystack, matches, out, write)
-            }
-        }
+        let matches = self.non_overlapping(haystack);
+        replace_with::<_, _, _, O, O, F>(haystack, matches, out, write)
+    }
+
+    /// As [`CharwiseDoubleArrayAhoCorasick::replace_all_into_with`], over rows.
+    pub fn replace_all_into_with<
+        'h,
+        W: Write,
+        F: FnMut(Match<V>, &'h str, &mut W) -> io::Result<()> + Drop,
+    >(&self, haystack: &'h str, out: &mut W, write: F) -> io::Result<()>
+        requires callable { F.IsAlwaysCallable write }
+        ensures whole { OnOk result (IsReplaced (λ s. s.now) W.contents haystack.now F.step (non_overlapping (kind_of self.now.automaton) char_width (dictionary_of self.now.automaton) (as_read self.now.automaton.folds (chars haystack.now))) write out.old out.new) }
+        ensures beginning { OnErr result (IsReplacedSoFar (λ s. s.now) W.contents haystack.now F.step (non_overlapping (kind_of self.now.automaton) char_width (dictionary_of self.now.automaton) (as_read self.now.automaton.folds (chars haystack.now))) write out.old out.new) }
+    {
+        let matches = self.non_overlapping(haystack);
+        replace_with::<_, _, _, W, ToWriter, F>(haystack, matches, out, write)
     }
 }

@@ -200,7 +200,7 @@ const CHARACTERS: &[Rows<'static, char>] = &[
         kind: MatchKind::LeftmostLongest,
         dense_root: false,
         rows: &[
-            // A character without a label leads to the root, so the search restarts after the match.
+            // A character without a label leads to the root, so the search restarts after it.
             (
                 &[&['世'], &['世', '界', '世']],
                 &[&['世', '界', 'x']],

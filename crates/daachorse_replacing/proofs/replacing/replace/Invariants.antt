@@ -1,15 +1,10 @@
--- The haystack up to the last match went out, with what was given for the matches so far in their place.
-use Rattle.std.proofs.Common.{◌≡◌, List, length}
-use Rattle.std.specs.Io.KnownBytes.{Appends}
-use Rattle.daachorse_model.specs.Matches.{last_end}
-use Rattle.daachorse_replacing.specs.Replaced.{AreGiven}
-use Rattle.daachorse_replacing.proofs.Parts.{before}
+-- Whatever is put out of the matches that are left, behind what was put out so far, is put out of all matches.
+use Rattle.daachorse_replacing.specs.Replaced.{AreParts}
+use Rattle.daachorse_replacing.proofs.Pieces.{PutsOut}
 use Rattle.daachorse_replacing.proofs.replacing.replace.Given as goal
 
 abbrev pub invariant-loop-found : goal.invariant-loop-found
 invariant-loop-found g l = record {
-  place : l.place ≡ last_end 0 l.yielded;
-  taken : (given : List _) × AreGiven g.P.Piece.bytes (g.P.Piece.bytes l.fn.haystack) (goal.F-post g l.fn.replacement) l.yielded given
-      × (length given ≡ length l.yielded)
-      × Appends (g.A.Appending.taken l.fn.out) (g.A.Appending.taken l.out) (before g.P.Piece.bytes (g.P.Piece.bytes l.fn.haystack) l.yielded given);
+  parts : AreParts (g.P.Piece.may_cut l.fn.haystack) l.place (g.I.Listed.left l.found-iterator);
+  puts : PutsOut g.P.Piece.bytes (g.P.Piece.bytes l.fn.haystack) (goal.F-post g l.fn.replacement) (g.I.Listed.left l.fn.matches) (g.A.Appending.taken l.fn.out) l.place (g.I.Listed.left l.found-iterator) (g.A.Appending.taken l.out);
 }

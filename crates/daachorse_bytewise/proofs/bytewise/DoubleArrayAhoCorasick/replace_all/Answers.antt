@@ -1,14 +1,10 @@
--- What went to the end of nothing is all that is there.
-use Rattle.std.proofs.Common.{◌++◌, map, ap, ◌∙◌}
-use Rattle.daachorse_model.specs.Folding.{as_read}
-use Rattle.daachorse_model.specs.Units.{byte_width}
-use Rattle.daachorse_replacing.specs.ByKind.{non_overlapping}
+-- What went to the end of nothing is all that is there, and the matches are those of the kind's search.
+use Rattle.std.proofs.Common.{◌++◌, map, sym, ap, ◌∙◌}
 use Rattle.daachorse_replacing.specs.Replaced.{with_pieces}
-use Rattle.daachorse_bytewise.specs.Automata.{dictionary_of, kind_of}
 use Rattle.daachorse_bytewise.proofs.bytewise.DoubleArrayAhoCorasick.replace_all.Goals as goal
 
 pub returns-clause-ok : goal.returns-clause-ok
 returns-clause-ok g c =
-    let (given, are, one_each, went) = c.in_ok-replace_by_kind.ensures.whole in
-    let text = with_pieces c.args.haystack.now (non_overlapping (kind_of c.args.self.now) byte_width (dictionary_of c.args.self.now) (as_read c.args.self.now.folds c.args.haystack.now)) (map (λ s. s.now) given) in
-    (given, are, one_each, went ∙ ap (λ l. l ++ text) c.new-out.ensures.items)
+    let (given, are, one_each, went) = c.in_ok-replace.ensures.whole in
+    let text = with_pieces c.args.haystack.now c.non_overlapping-matches.result (map (λ s. s.now) given) in
+    rw (sym c.non_overlapping-matches.ensures.left) (given, are, one_each, went ∙ ap (λ l. l ++ text) c.new-out.ensures.items)

@@ -1,36 +1,18 @@
 -- The texts are all that the iterator gives, and the settings are the builder's.
-use Rattle.std.proofs.Common.{ℕ, Bool, ap, ◌∙◌, inr}
+use Rattle.std.proofs.Common.{◌≡◌, subst, inr}
 use Rattle.std.proofs.lemmas.Result.{IfOk-weaker, IfErr-weaker}
-use Rattle.daachorse_model.specs.declared.MatchKind.{MatchKind}
-use Rattle.daachorse_patterns.specs.declared.settings.Settings.{Settings}
+use Rattle.daachorse_model.specs.Folding.{all_as_read}
+use Rattle.daachorse_charwise.specs.Building.{IsBuildRefusal, IsBuiltOf, kept_filter, texts_of_strings}
+use Rattle.daachorse_charwise.proofs.GatheredLaws.{IsAsked, of_all}
 use Rattle.daachorse_charwise.proofs.charwise.builder.CharwiseDoubleArrayAhoCorasickBuilder.build.Goals as goal
 
-pub returns-clause-ok : goal.returns-clause-ok
-returns-clause-ok g c =
-    let r = c.in_ok-texts.ensures.ok in
+pub returns : goal.returns
+returns g c =
     let s = c.with_documents_as_read-settings.ensures in
-    let K : Settings ℕ g.row.A.Denot → MatchKind = λ x. x.match_kind in
-    let F : Settings ℕ g.row.A.Denot → Bool = λ x. x.ascii_case_insensitive in
-    IfOk-weaker c.from_texts.result _ _
-    (λ a built. (c.into_iter.result, c.into_iter.ensures.into_iter_gives, (r.0, r.1, r.2, rw (s.kind ∙ ap K c.self.view_is, s.fold ∙ ap F c.self.view_is, c.deref.ensures.value ∙ r.3) at built)))
-    c.from_texts.ensures.ok
-
-pub returns-clause-err : goal.returns-clause-err
-returns-clause-err g c =
-    let r = c.in_ok-texts.ensures.ok in
-    let s = c.with_documents_as_read-settings.ensures in
-    let K : Settings ℕ g.row.A.Denot → MatchKind = λ x. x.match_kind in
-    let F : Settings ℕ g.row.A.Denot → Bool = λ x. x.ascii_case_insensitive in
-    IfErr-weaker c.from_texts.result _ _
-    (λ e refused. inr (c.into_iter.result, c.into_iter.ensures.into_iter_gives, (r.0, r.1, r.2, rw (s.kind ∙ ap K c.self.view_is, s.fold ∙ ap F c.self.view_is, c.deref.ensures.value ∙ r.3) at refused)))
-    c.from_texts.ensures.err
-
-pub returns-clause-filter : goal.returns-clause-filter
-returns-clause-filter g c =
-    let r = c.in_ok-texts.ensures.ok in
-    let s = c.with_documents_as_read-settings.ensures in
-    let K : Settings ℕ g.row.A.Denot → Bool = λ x. x.use_prefilter in
-    let F : Settings ℕ g.row.A.Denot → Bool = λ x. x.ascii_case_insensitive in
-    IfOk-weaker c.from_texts.result _ _
-    (λ a is. (c.into_iter.result, c.into_iter.ensures.into_iter_gives, (r.0, r.1, r.2, rw (s.filter ∙ ap K c.self.view_is, s.fold ∙ ap F c.self.view_is, c.deref.ensures.value ∙ r.3) at is)))
-    c.from_texts.ensures.filter
+    let same = subst (IsAsked c.with_documents_as_read-settings.result) c.self.view_is (record { kind = s.kind; filter = s.filter; folds = s.fold }) in
+    let promise = of_all c.into_iter.result c.into_iter.ensures.into_iter_gives c.in_ok-texts.ensures.ok _ c.deref.ensures.value c.args.self same in
+    record {
+      ok = IfOk-weaker c.from_texts.result _ _ (λ a. promise (λ k u i ts. IsBuiltOf g.V.TryFrom.try_from_gives k i (texts_of_strings ts) a)) c.from_texts.ensures.ok;
+      filter = IfOk-weaker c.from_texts.result _ _ (λ a. promise (λ k u i ts. a.filter ≡ kept_filter u (all_as_read i (texts_of_strings ts)))) c.from_texts.ensures.filter;
+      err = IfErr-weaker c.from_texts.result _ _ (λ e h. inr (promise (λ k u i ts. IsBuildRefusal g.V.TryFrom.try_from_gives k (all_as_read i (texts_of_strings ts)) e) h)) c.from_texts.ensures.err;
+    }

@@ -1,36 +1,18 @@
 -- The patterns are all that the iterator gives, and the settings are the builder's.
-use Rattle.std.proofs.Common.{ℕ, Bool, ap, ◌∙◌, inr}
+use Rattle.std.proofs.Common.{◌≡◌, map, subst, inr}
 use Rattle.std.proofs.lemmas.Result.{IfOk-weaker, IfErr-weaker}
-use Rattle.daachorse_model.specs.declared.MatchKind.{MatchKind}
-use Rattle.daachorse_patterns.specs.declared.settings.Settings.{Settings}
+use Rattle.daachorse_model.specs.Folding.{texts_as_read}
+use Rattle.daachorse_charwise.specs.Building.{IsBuiltWith, IsRefusalOf, kept_filter, registrations_of_strings}
+use Rattle.daachorse_charwise.proofs.GatheredLaws.{IsAsked, of_all}
 use Rattle.daachorse_charwise.proofs.charwise.builder.CharwiseDoubleArrayAhoCorasickBuilder.build_with_values.Goals as goal
 
-pub returns-clause-ok : goal.returns-clause-ok
-returns-clause-ok g c =
-    let r = c.in_ok-patterns.ensures.ok in
+pub returns : goal.returns
+returns g c =
     let s = c.with_documents_as_read-settings.ensures in
-    let K : Settings ℕ g.row.A.Denot → MatchKind = λ x. x.match_kind in
-    let F : Settings ℕ g.row.A.Denot → Bool = λ x. x.ascii_case_insensitive in
-    IfOk-weaker c.from_patterns.result _ _
-    (λ a built. (c.into_iter.result, c.into_iter.ensures.into_iter_gives, (r.0, r.1, r.2, rw (s.kind ∙ ap K c.self.view_is, s.fold ∙ ap F c.self.view_is, c.deref.ensures.value ∙ r.3) at built)))
-    c.from_patterns.ensures.ok
-
-pub returns-clause-err : goal.returns-clause-err
-returns-clause-err g c =
-    let r = c.in_ok-patterns.ensures.ok in
-    let s = c.with_documents_as_read-settings.ensures in
-    let K : Settings ℕ g.row.A.Denot → MatchKind = λ x. x.match_kind in
-    let F : Settings ℕ g.row.A.Denot → Bool = λ x. x.ascii_case_insensitive in
-    IfErr-weaker c.from_patterns.result _ _
-    (λ e refused. inr (c.into_iter.result, c.into_iter.ensures.into_iter_gives, (r.0, r.1, r.2, rw (s.kind ∙ ap K c.self.view_is, s.fold ∙ ap F c.self.view_is, c.deref.ensures.value ∙ r.3) at refused)))
-    c.from_patterns.ensures.err
-
-pub returns-clause-filter : goal.returns-clause-filter
-returns-clause-filter g c =
-    let r = c.in_ok-patterns.ensures.ok in
-    let s = c.with_documents_as_read-settings.ensures in
-    let K : Settings ℕ g.row.A.Denot → Bool = λ x. x.use_prefilter in
-    let F : Settings ℕ g.row.A.Denot → Bool = λ x. x.ascii_case_insensitive in
-    IfOk-weaker c.from_patterns.result _ _
-    (λ a is. (c.into_iter.result, c.into_iter.ensures.into_iter_gives, (r.0, r.1, r.2, rw (s.filter ∙ ap K c.self.view_is, s.fold ∙ ap F c.self.view_is, c.deref.ensures.value ∙ r.3) at is)))
-    c.from_patterns.ensures.filter
+    let same = subst (IsAsked c.with_documents_as_read-settings.result) c.self.view_is (record { kind = s.kind; filter = s.filter; folds = s.fold }) in
+    let promise = of_all c.into_iter.result c.into_iter.ensures.into_iter_gives c.in_ok-patterns.ensures.ok _ c.deref.ensures.value c.args.self same in
+    record {
+      ok = IfOk-weaker c.from_patterns.result _ _ (λ a. promise (λ k u i ts. IsBuiltWith k i (registrations_of_strings ts) a)) c.from_patterns.ensures.ok;
+      filter = IfOk-weaker c.from_patterns.result _ _ (λ a. promise (λ k u i ts. a.filter ≡ kept_filter u (map (λ r. r.0) (texts_as_read i (registrations_of_strings ts))))) c.from_patterns.ensures.filter;
+      err = IfErr-weaker c.from_patterns.result _ _ (λ e h. inr (promise (λ k u i ts. IsRefusalOf k (texts_as_read i (registrations_of_strings ts)) e) h)) c.from_patterns.ensures.err;
+    }

@@ -1,0 +1,99 @@
+//! The text that a reader gives with its matches replaced.
+
+ghost use Rattle.std.specs.Prelude.{◌≡◌, IfErr, IfOk, OnErr, OnOk, encode_utf8_all};
+ghost use Rattle.std.specs.Char.{IsScalar};
+ghost use Rattle.daachorse_core.specs.Refusals.{IsOutOfMemory};
+ghost use Rattle.daachorse_model.specs.declared.MatchKind.TheVariants.{Standard};
+ghost use Rattle.daachorse_model.specs.Folding.{as_read};
+ghost use Rattle.daachorse_model.specs.Matches.{standard};
+ghost use Rattle.daachorse_model.specs.Units.{char_width};
+ghost use Rattle.daachorse_replacing.specs.Streams.{HasNoLonger, IsReadReplaced, IsReadReplacedSoFar};
+ghost use Rattle.daachorse_charwise.specs.Automata.{dictionary_of, kind_of};
+
+use super::CharwiseDoubleArrayAhoCorasick;
+use super::accelerated::Accelerated;
+use daachorse_core::Match;
+use daachorse_core::errors::Result;
+use daachorse_replacing::streaming::replace_from;
+use daachorse_search::read_chars::ReadChars;
+use daachorse_search::reader::in_blocks;
+use std::alloc::Allocator;
+use std::io::{self, Read, Write};
+
+impl<V: Copy, A: Allocator + Copy> CharwiseDoubleArrayAhoCorasick<V, A> {
+    /// Writes the text that a reader gives, and in place of each match what `write` writes for it.
+    ///
+    /// `write` gets the match, the bytes of the text that matched, and the writer. The matches are
+    /// those of [`Self::find_iter`]. Of `ab` and `b`, each replaced by its length, `abxb` becomes
+    /// `2x1`.
+    ///
+    /// It holds at most as many bytes as the longest pattern has, and two blocks of 64 KiB. To find
+    /// the longest it lists the patterns first, for which it takes what [`Self::iter`] takes.
+    ///
+    /// Stops at the first error, of the reader, of the writer, of `write` or of an allocation, and
+    /// at bytes that are no UTF-8 with [`InvalidData`](io::ErrorKind::InvalidData). The writer then
+    /// has a beginning of what it was to get. A read that was interrupted is tried again. The
+    /// writer is not flushed.
+    pub fn replace_all_from_reader<
+        R: Read + Drop,
+        O: Write,
+        F: FnMut(Match<V>, &[u8], &mut O) -> io::Result<()> + Drop,
+        B: Allocator + Copy,
+    >(&self, alloc: B, reader: R, out: &mut O, write: F) -> io::Result<()>
+        requires kind { kind_of self.now ≡ Standard }
+        requires callable { F.IsAlwaysCallable write }
+        ensures whole { OnOk result (IsReadReplaced (λ s. s.now) O.contents F.step IsScalar encode_utf8_all (R.remaining reader)
+            (λ characters. standard char_width (dictionary_of self.now) (as_read self.now.folds characters)) write out.old out.new) }
+        ensures beginning { OnErr result (IsReadReplacedSoFar (λ s. s.now) O.contents F.step IsScalar encode_utf8_all (R.remaining reader)
+            (λ characters. standard char_width (dictionary_of self.now) (as_read self.now.folds characters)) write out.old out.new) }
+    {
+        prove!(self.match_kind().is_standard());
+        let longest = self.longest_pattern()?;
+        let source = ReadChars::new(in_blocks(alloc, reader)?);
+        replace_from(
+            self.states.standard(),
+            self.folds,
+            source,
+            longest,
+            alloc,
+            out,
+            write,
+        )
+    }
+
+    /// The length of the longest pattern, in bytes.
+    fn longest_pattern(&self) -> Result<usize>
+        ensures ok { IfOk result (HasNoLonger char_width (dictionary_of self.now)) }
+        ensures err { IfErr result IsOutOfMemory }
+    {
+        let mut longest = 0;
+        for item in self.iter(*self.depths.allocator())? {
+            let (pattern, _value) = item?;
+            longest = longest.max(pattern.as_str().len());
+        }
+        Ok(longest)
+    }
+}
+
+impl<V: Copy, A: Allocator + Copy> Accelerated<V, A> {
+    /// As [`CharwiseDoubleArrayAhoCorasick::replace_all_from_reader`], over rows.
+    pub fn replace_all_from_reader<
+        R: Read + Drop,
+        O: Write,
+        F: FnMut(Match<V>, &[u8], &mut O) -> io::Result<()> + Drop,
+        B: Allocator + Copy,
+    >(&self, alloc: B, reader: R, out: &mut O, write: F) -> io::Result<()>
+        requires kind { kind_of self.now.automaton ≡ Standard }
+        requires callable { F.IsAlwaysCallable write }
+        ensures whole { OnOk result (IsReadReplaced (λ s. s.now) O.contents F.step IsScalar encode_utf8_all (R.remaining reader)
+            (λ characters. standard char_width (dictionary_of self.now.automaton) (as_read self.now.automaton.folds characters)) write out.old out.new) }
+        ensures beginning { OnErr result (IsReadReplacedSoFar (λ s. s.now) O.contents F.step IsScalar encode_utf8_all (R.remaining reader)
+            (λ characters. standard char_width (dictionary_of self.now.automaton) (as_read self.now.automaton.folds characters)) write out.old out.new) }
+    {
+        prove!(self.automaton().match_kind().is_standard());
+        let longest = self.automaton().longest_pattern()?;
+        let source = ReadChars::new(in_blocks(alloc, reader)?);
+        let folds = self.automaton().is_ascii_case_insensitive();
+        replace_from(self.standard(), folds, source, longest, alloc, out, write)
+    }
+}

@@ -1,0 +1,144 @@
+-- The loop over a source: what it took so far is what its stepper read, and went out but for what is held.
+use Rattle.std.proofs.Common.{◌≡◌, ℕ, ◌+◌, ◌<◌, ◌≤◌, ◌^◌, Bool, true, false, List, [], ◌∷◌, ◌++◌, length, map, Option, Some, None, Result, refl, sym, ap, ◌∙◌, subst, append-nil, arith}
+use Rattle.std.proofs.lemmas.List.{map-append}
+use Rattle.std.proofs.lemmas.Grind.{flat_map-append}
+use Rattle.std.specs.Prelude.{IfSome, flat_map, option_to_list}
+use Rattle.std.specs.Borrow.{MutBor}
+use Rattle.std.specs.Io.KnownBytes.{Appends}
+use Rattle.std.specs.Iterator.{Count, MakesProgress, Yields}
+use Rattle.std.specs.declared.io.Error.{Error}
+use Rattle.daachorse_model.specs.declared.Match.{Match}
+use Rattle.daachorse_model.specs.Dictionary.{Dictionary}
+use Rattle.daachorse_model.specs.Folding.{as_read, folded_unit}
+use Rattle.daachorse_model.specs.Matches.{standard, standard_after}
+use Rattle.daachorse_model.specs.Units.{size}
+use Rattle.daachorse_model.proofs.FoldLaws.{as_read-append, size-as_read}
+use Rattle.daachorse_haystack.specs.Sources.{IsReady}
+use Rattle.daachorse_haystack.proofs.SourceLaws.{IsReady-more, IsReady-next, Yields_push}
+use Rattle.daachorse_replacing.specs.Replaced.{AppendsBeginning}
+use Rattle.daachorse_replacing.specs.ReplacedWith.{IsReplaced, IsReplacedSoFar}
+use Rattle.daachorse_replacing.specs.Streams.{EndsWithin, HasNoLonger, IsStreamed, IsStreamedSoFar, Settles, SettlesSoFar}
+use Rattle.daachorse_replacing.proofs.LeadsOn.{so_far_nothing}
+use Rattle.daachorse_replacing.proofs.SentLaws.{IsSent, sent-first, sent-more, sent-settled, sent-whole, sent-within, unsent-settled, unsent-whole}
+use Rattle.daachorse_replacing.proofs.StandardMatches.{standard-first, standard-more}
+
+module _ {V P O F S U : Type 0} (bytes : P → List ℕ) (taken : O → Option (List ℕ)) (step : F → Match V → P → MutBor O → Result (Unit {0}) Error → MutBor O → F → Type 0) (first : F) (old : O)
+    (can : S → Type 0) (steps : S → Option U → S → Type 0) (left : S → Count) (failure : S → Option Error) (unit : U → ℕ) (form : U → List ℕ) (width : ℕ → ℕ)
+    (K : Dictionary V) (longest : ℕ) (folds : Bool) (source : S) where
+  abbrev Sent : List ℕ → List ℕ → List (Match V) → List ℕ → F → O → Type 0
+  Sent = IsSent bytes taken step first old width K longest
+
+  -- nothing was taken yet
+  pub streams-nothing : (matches : List ℕ → List (Match V)) → IsStreamedSoFar bytes taken step steps failure unit form matches source first old old
+  streams-nothing matches = record { units = []; last = source; took = refl; replaced = so_far_nothing bytes taken step first old [] 0 (matches []) }
+
+  -- at the head of the loop: of the units taken, the match that ends with the last is still to come
+  pub record Goes (read : List ℕ) (s : S) (held : List ℕ) (f : F) (out : O) : Type 0 where
+    pub units : List U
+    pub took : Yields steps source units s
+    pub ready : IsReady can steps left unit width s (size width (map unit units))
+    pub is : read ≡ as_read folds (map unit units)
+    pub done : List (Match V)
+    pub gains : standard width K read ≡ done ++ option_to_list (standard_after width K read)
+    pub sent : Sent (flat_map form units) read done held f out
+
+  module _ (wide : (u : ℕ) → 1 ≤ width u) (as_wide : (u : ℕ) → width (folded_unit u) ≡ width u) where
+    pub goes-first : IsReady can steps left unit width source 0 → (read held : List ℕ) → read ≡ [] → held ≡ [] → Goes read source held first old
+    goes-first ready read held none empty =
+        let R : List ℕ → Type 0 = λ l. Goes l source held first old in
+        let H : List ℕ → Type 0 = λ l. Goes [] source l first old in
+        subst R (sym none) (subst H (sym empty) (record {
+          units = [];
+          took = refl;
+          ready = ready;
+          is = nothing folds;
+          done = [];
+          gains = standard-first width K wide;
+          sent = sent-first bytes taken step first old width K longest;
+        }))
+      where
+        nothing : (b : Bool) → [] ≡ as_read b []
+        nothing true = refl
+        nothing false = refl
+
+module _ {V P O F S U : Type 0} {bytes : P → List ℕ} {taken : O → Option (List ℕ)} {step : F → Match V → P → MutBor O → Result (Unit {0}) Error → MutBor O → F → Type 0} {first : F} {old : O}
+    {can : S → Type 0} {steps : S → Option U → S → Type 0} {left : S → Count} {failure : S → Option Error} {unit : U → ℕ} {form : U → List ℕ} {width : ℕ → ℕ}
+    {K : Dictionary V} {longest : ℕ} {folds : Bool} {source : S} (wide : (u : ℕ) → 1 ≤ width u) (as_wide : (u : ℕ) → width (folded_unit u) ≡ width u) where
+  module _ (bound : HasNoLonger width K longest) {read : List ℕ} {s : S} {held : List ℕ} {f : F} {out : O} (h : Goes bytes taken step first old can steps left failure unit form width K longest folds source read s held f out) where
+    pub goes-within : (found : Option (Match V)) → found ≡ standard_after width K read → IfSome found (EndsWithin held)
+    goes-within found here = sent-within bytes taken step first old width K longest bound h.sent found here h.gains
+
+    sized : size width read ≡ size width (map unit h.units)
+    sized = ap (size width) h.is ∙ size-as_read width as_wide folds (map unit h.units)
+
+    -- the place behind the next unit fits
+    pub goes-fits : (u : U) (t : S) → steps s (Some u) t → MakesProgress can left s (Some u) t → size width read + width (unit u) < 2 ^ 64
+    goes-fits u t took goes = omega (arith, sized, IsReady-next can steps left unit width s u t (size width (map unit h.units)) h.ready took goes)
+
+    -- the output or the call for a match refused
+    pub stops-settling : (found : Option (Match V)) → found ≡ standard_after width K read → (new : O) → SettlesSoFar bytes taken step found held f out new
+        → IsStreamedSoFar bytes taken step steps failure unit form (λ units. standard width K (as_read folds units)) source first old new
+    stops-settling found here new part = record {
+      units = h.units;
+      last = s;
+      took = h.took;
+      replaced =
+          let R : List ℕ → Type 0 = λ l. IsReplacedSoFar bytes taken (flat_map form h.units) step (standard width K l) first old new in
+          subst R h.is (unsent-settled bytes taken step first old width K longest bound h.sent found here h.gains new part);
+    }
+
+    module _ (found : Option (Match V)) (here : found ≡ standard_after width K read) (rest : List ℕ) (g : F) (new : O) (settles : Settles bytes taken step longest found held f out rest g new) where
+      settled : IsSent bytes taken step first old width K longest (flat_map form h.units) read (standard width K read) rest g new
+      settled = sent-settled bytes taken step first old width K longest bound h.sent found here h.gains rest g new settles
+
+      -- the source came to its end
+      pub goes-to-end : (ended : S) (last : O) → steps s None ended → failure ended ≡ None → Appends (taken new) (taken last) rest
+          → IsStreamed bytes taken step steps failure unit form (λ units. standard width K (as_read folds units)) source first old last
+      goes-to-end ended last ends whole went = record {
+        units = h.units;
+        last = s;
+        ended = ended;
+        took = h.took;
+        ends = ends;
+        whole = whole;
+        replaced =
+            let R : List ℕ → Type 0 = λ l. IsReplaced bytes taken (flat_map form h.units) step (standard width K l) first old last in
+            subst R h.is (sent-whole bytes taken step first old width K longest bound settled last went);
+      }
+
+      -- the output refused some of what was held, or nothing more went to it
+      pub stops-settled : (last : O) → AppendsBeginning (taken new) (taken last) rest → IsStreamedSoFar bytes taken step steps failure unit form (λ units. standard width K (as_read folds units)) source first old last
+      stops-settled last part = record {
+        units = h.units;
+        last = s;
+        took = h.took;
+        replaced =
+            let R : List ℕ → Type 0 = λ l. IsReplacedSoFar bytes taken (flat_map form h.units) step (standard width K l) first old last in
+            subst R h.is (unsent-whole bytes taken step first old width K longest bound settled last part);
+      }
+
+      -- one unit more
+      pub goes-more : (u : U) (t : S) (after more : List ℕ) → steps s (Some u) t → MakesProgress can left s (Some u) t → length (form u) ≡ width (unit u)
+          → after ≡ read ++ as_read folds (unit u ∷ []) → more ≡ rest ++ form u → Goes bytes taken step first old can steps left failure unit form width K longest folds source after t more g new
+      goes-more u t after more took goes long reads holds =
+          let units = map-append unit h.units (u ∷ []) in
+          let text : flat_map form (h.units ++ u ∷ []) ≡ flat_map form h.units ++ form u =
+          flat_map-append form h.units (u ∷ []) ∙ ap (λ l. flat_map form h.units ++ l) (append-nil (form u)) in
+          let one : length (form u) ≡ size width (as_read folds (unit u ∷ [])) = omega (arith, long, size-as_read width as_wide folds (unit u ∷ [])) in
+          let next : IsSent bytes taken step first old width K longest (flat_map form h.units ++ form u) (read ++ as_read folds (unit u ∷ [])) (standard width K read) (rest ++ form u) g new =
+          sent-more bytes taken step first old width K longest settled (form u) (as_read folds (unit u ∷ [])) one in
+          record {
+            units = h.units ++ u ∷ [];
+            took = Yields_push steps source h.units s u t h.took took;
+            ready = IsReady-more can steps left unit width s u t (map unit h.units) (map unit (h.units ++ u ∷ [])) h.ready took goes units;
+            is = reads ∙ ap (λ l. l ++ as_read folds (unit u ∷ [])) h.is ∙ sym (as_read-append folds (map unit h.units) (unit u ∷ [])) ∙ ap (as_read folds) (sym units);
+            done = standard width K read;
+            gains =
+                let Q : List ℕ → Type 0 = λ l. standard width K l ≡ standard width K read ++ option_to_list (standard_after width K l) in
+                subst Q (sym reads) (standard-more width K wide folds read (unit u));
+            sent =
+                let T : List ℕ → Type 0 = λ l. IsSent bytes taken step first old width K longest l after (standard width K read) more g new in
+                let R : List ℕ → Type 0 = λ l. IsSent bytes taken step first old width K longest (flat_map form h.units ++ form u) l (standard width K read) more g new in
+                let H : List ℕ → Type 0 = λ l. IsSent bytes taken step first old width K longest (flat_map form h.units ++ form u) (read ++ as_read folds (unit u ∷ [])) (standard width K read) l g new in
+                subst T (sym text) (subst R (sym reads) (subst H (sym holds) next));
+          }

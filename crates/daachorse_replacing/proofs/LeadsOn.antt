@@ -1,0 +1,155 @@
+-- What comes of the matches of a stream that are still to come, whatever bytes come with them, behind what was put out for those before them.
+use Rattle.std.proofs.Common.{◌≡◌, inl, inr, ℕ, ◌+◌, ◌-◌, ◌≤◌, List, [], ◌∷◌, ◌++◌, length, take, drop, Option, Result, Ok, Err, refl, sym, ap, ◌∙◌, subst, append_assoc, append-nil, take-append-drop, arith}
+use Rattle.std.proofs.lemmas.List.{take-append-le, drop-append-le, drop-drop, length-drop}
+use Rattle.std.proofs.Math.Seq.{take-add}
+use Rattle.std.specs.Prelude.{slice_range}
+use Rattle.std.specs.Borrow.{MutBor}
+use Rattle.std.specs.Io.KnownBytes.{Appends}
+use Rattle.std.proofs.KnownBytes.{Appends-nil, Appends-trans}
+use Rattle.daachorse_model.specs.declared.Match.{Match}
+use Rattle.daachorse_model.specs.Laws.{Follows}
+use Rattle.daachorse_model.proofs.Overlap.{Follows-earlier}
+use Rattle.daachorse_replacing.specs.Replaced.{AppendsBeginning}
+use Rattle.daachorse_replacing.specs.ReplacedWith.{IsReplaced, IsReplacedFrom, IsReplacedSoFar, IsReplacedSoFarFrom}
+use Rattle.daachorse_replacing.specs.Streams.{MayWriteFor}
+
+-- a beginning of a part is one of the whole
+pub AppendsBeginning-take : (old new : Option (List ℕ)) (n : ℕ) (text : List ℕ) → AppendsBeginning old new (take n text) → AppendsBeginning old new text
+AppendsBeginning-take old new n text (part, rest, is, went) =
+    (part, rest ++ drop n text, sym (take-append-drop n text) ∙ ap (λ l. l ++ drop n text) is ∙ append_assoc part rest (drop n text), went)
+
+-- nothing was put out
+pub AppendsBeginning-nothing : (out : Option (List ℕ)) (text : List ℕ) → AppendsBeginning out out text
+AppendsBeginning-nothing out text = ([], text, refl, Appends-nil out)
+
+-- what comes later leaves the parts of a text as they are
+within : (text future : List ℕ) (s e : ℕ) → s ≤ e → e ≤ length text → slice_range (text ++ future) s e ≡ slice_range text s e
+within text future s e ordered inside =
+    ap (take (e - s)) (drop-append-le s text future (omega (arith, ordered, inside)))
+    ∙ take-append-le (e - s) (drop s text) future (omega (arith, length-drop s text))
+
+-- a part in two
+joined : (text : List ℕ) (s n e : ℕ) → s + n ≤ e → slice_range text s e ≡ take n (drop s text) ++ slice_range text (s + n) e
+joined text s n e inside =
+    let count : e - s ≡ n + (e - (s + n)) = omega (arith, inside) in
+    ap (λ k. take k (drop s text)) count ∙ take-add n (e - (s + n)) (drop s text) ∙ ap (λ l. take n (drop s text) ++ take (e - (s + n)) l) (drop-drop n s text)
+
+rest_joined : (text : List ℕ) (s n : ℕ) → drop s text ≡ take n (drop s text) ++ drop (s + n) text
+rest_joined text s n = sym (take-append-drop n (drop s text)) ∙ ap (λ l. take n (drop s text) ++ l) (drop-drop n s text)
+
+module _ {V P O E F : Type 0} (bytes : P → List ℕ) (taken : O → Option (List ℕ)) (step : F → Match V → P → MutBor O → Result (Unit {0}) E → MutBor O → F → Type 0) (first : F) (old : O) where
+  -- from f and this output at s on, whatever comes of more matches and more bytes comes of those before and more from the start
+  pub record LeadsOn (text : List ℕ) (done : List (Match V)) (s : ℕ) (f : F) (out : O) : Type 0 where
+    pub all : (more : List ℕ) (ms : List (Match V)) (new : O) → Follows s ms → IsReplacedFrom bytes taken (text ++ more) step s ms f out new → IsReplaced bytes taken (text ++ more) step (done ++ ms) first old new
+    pub some : (more : List ℕ) (ms : List (Match V)) (new : O) → Follows s ms → IsReplacedSoFarFrom bytes taken (text ++ more) step s ms f out new → IsReplacedSoFar bytes taken (text ++ more) step (done ++ ms) first old new
+
+  -- nothing went out yet, whatever the matches are
+  pub so_far_nothing : (text : List ℕ) (s : ℕ) (ms : List (Match V)) → IsReplacedSoFarFrom bytes taken text step s ms first old old
+  so_far_nothing text s [] = AppendsBeginning-nothing (taken old) (drop s text)
+  so_far_nothing text s (m ∷ ms) = inl (AppendsBeginning-nothing (taken old) (slice_range text s m.start))
+
+  pub leads_from_start : LeadsOn [] [] 0 first old
+  leads_from_start = record { all = λ more ms new after h. h; some = λ more ms new after h. h }
+
+  -- more bytes came
+  pub leads_over : (text : List ℕ) (done : List (Match V)) (s : ℕ) (f : F) (out : O) (next : List ℕ) → LeadsOn text done s f out → LeadsOn (text ++ next) done s f out
+  leads_over text done s f out next h = record {
+    all = λ more ms new after rest.
+        let P : List ℕ → Type 0 = λ l. IsReplaced bytes taken l step (done ++ ms) first old new in
+        let Q : List ℕ → Type 0 = λ l. IsReplacedFrom bytes taken l step s ms f out new in
+        let e = append_assoc text next more in
+        subst P (sym e) (h.all (next ++ more) ms new after (subst Q e rest));
+    some = λ more ms new after rest.
+        let P : List ℕ → Type 0 = λ l. IsReplacedSoFar bytes taken l step (done ++ ms) first old new in
+        let Q : List ℕ → Type 0 = λ l. IsReplacedSoFarFrom bytes taken l step s ms f out new in
+        let e = append_assoc text next more in
+        subst P (sym e) (h.some (next ++ more) ms new after (subst Q e rest));
+  }
+
+  module _ (text : List ℕ) (done : List (Match V)) (s : ℕ) (f : F) (out : O) (h : LeadsOn text done s f out) where
+    -- n bytes went out, before any match that is to come
+    pub leads_past : (n : ℕ) (next : O) → s + n ≤ length text → Appends (taken out) (taken next) (take n (drop s text)) → LeadsOn text done (s + n) f next
+    leads_past n next inside went = record {
+      all = λ more ms new after rest. h.all more ms new (Follows-earlier s (s + n) ms (omega arith) after) (whole more ms new after rest);
+      some = λ more ms new after rest. h.some more ms new (Follows-earlier s (s + n) ms (omega arith) after) (part more ms new after rest);
+    }
+      where
+        same : (more : List ℕ) → take n (drop s (text ++ more)) ≡ take n (drop s text)
+        same more =
+            ap (take n) (drop-append-le s text more (omega (arith, inside))) ∙ take-append-le n (drop s text) more (omega (arith, inside, length-drop s text))
+
+        join : (more : List ℕ) (b : Option (List ℕ)) (later whole : List ℕ) → whole ≡ take n (drop s (text ++ more)) ++ later → Appends (taken next) b later → Appends (taken out) b whole
+        join more b later whole e p =
+            subst (Appends (taken out) b) (sym (e ∙ ap (λ l. l ++ later) (same more))) (Appends-trans (taken out) (taken next) b (take n (drop s text)) later went p)
+
+        begin : (more : List ℕ) (b : Option (List ℕ)) (later whole : List ℕ) → whole ≡ take n (drop s (text ++ more)) ++ later → AppendsBeginning (taken next) b later → AppendsBeginning (taken out) b whole
+        begin more b later whole e (piece, left, is, p) = (
+          take n (drop s text) ++ piece,
+          left,
+          e ∙ ap (λ l. l ++ later) (same more) ∙ ap (λ l. take n (drop s text) ++ l) is ∙ sym (append_assoc (take n (drop s text)) piece left),
+          Appends-trans (taken out) (taken next) b (take n (drop s text)) piece went p,
+        )
+
+        whole : (more : List ℕ) (ms : List (Match V)) (new : O) → Follows (s + n) ms → IsReplacedFrom bytes taken (text ++ more) step (s + n) ms f next new → IsReplacedFrom bytes taken (text ++ more) step s ms f out new
+        whole more [] new after rest = join more (taken new) (drop (s + n) (text ++ more)) (drop s (text ++ more)) (rest_joined (text ++ more) s n) rest
+        whole more (m ∷ ms) new after (at, then, g, before, call, rest) =
+            (at, then, g, join more (taken at) (slice_range (text ++ more) (s + n) m.start) (slice_range (text ++ more) s m.start) (joined (text ++ more) s n m.start after.0) before, call, rest)
+
+        part : (more : List ℕ) (ms : List (Match V)) (new : O) → Follows (s + n) ms → IsReplacedSoFarFrom bytes taken (text ++ more) step (s + n) ms f next new → IsReplacedSoFarFrom bytes taken (text ++ more) step s ms f out new
+        part more [] new after rest = begin more (taken new) (drop (s + n) (text ++ more)) (drop s (text ++ more)) (rest_joined (text ++ more) s n) rest
+        part more (m ∷ ms) new after (inl went) =
+            inl (begin more (taken new) (slice_range (text ++ more) (s + n) m.start) (slice_range (text ++ more) s m.start) (joined (text ++ more) s n m.start after.0) went)
+        part more (m ∷ ms) new after (inr (at, before, rest)) =
+            inr (at, join more (taken at) (slice_range (text ++ more) (s + n) m.start) (slice_range (text ++ more) s m.start) (joined (text ++ more) s n m.start after.0) before, rest)
+
+    module _ (m : Match V) (starts : s ≤ m.start) (ordered : m.start ≤ m.end) (ends : m.end ≡ length text) where
+      before_is : (more : List ℕ) → slice_range (text ++ more) s m.start ≡ slice_range text s m.start
+      before_is more = within text more s m.start starts (omega (arith, ordered, ends))
+
+      matched_is : (more : List ℕ) → slice_range (text ++ more) m.start m.end ≡ slice_range text m.start m.end
+      matched_is more = within text more m.start m.end ordered (omega (arith, ends))
+
+      -- the match went out
+      pub leads_behind : (at next : O) (g : F) → Appends (taken out) (taken at) (slice_range text s m.start) → MayWriteFor bytes taken step f m (slice_range text m.start m.end) at (Ok tt) next g
+          → LeadsOn text (done ++ m ∷ []) m.end g next
+      leads_behind at next g went (p, shown, left, is, was, then, call) = record {
+        all = λ more ms new after rest.
+            let P : List (Match V) → Type 0 = λ l. IsReplaced bytes taken (text ++ more) step l first old new in
+            subst P (sym (append_assoc done (m ∷ []) ms)) (h.all more (m ∷ ms) new (starts, ordered, after)
+            (at, next, g, subst (Appends (taken out) (taken at)) (sym (before_is more)) went, (p, shown, left, is ∙ sym (matched_is more), was, then, call), rest));
+        some = λ more ms new after rest.
+            let P : List (Match V) → Type 0 = λ l. IsReplacedSoFar bytes taken (text ++ more) step l first old new in
+            subst P (sym (append_assoc done (m ∷ []) ms)) (h.some more (m ∷ ms) new (starts, ordered, after)
+            (inr (at, subst (Appends (taken out) (taken at)) (sym (before_is more)) went, inr (next, g, (p, shown, left, is ∙ sym (matched_is more), was, then, call), rest))));
+      }
+
+      ends_at : (new : O) → IsReplacedSoFarFrom bytes taken text step s (m ∷ []) f out new → IsReplacedSoFar bytes taken text step (done ++ m ∷ []) first old new
+      ends_at new rest =
+          let P : List ℕ → Type 0 = λ l. IsReplacedSoFar bytes taken l step (done ++ m ∷ []) first old new in
+          let Q : List ℕ → Type 0 = λ l. IsReplacedSoFarFrom bytes taken l step s (m ∷ []) f out new in
+          subst P (append-nil text) (h.some [] (m ∷ []) new (starts, ordered, tt) (subst Q (sym (append-nil text)) rest))
+
+      -- the output took a beginning of the bytes before the match
+      pub stops_before : (new : O) → AppendsBeginning (taken out) (taken new) (slice_range text s m.start) → IsReplacedSoFar bytes taken text step (done ++ m ∷ []) first old new
+      stops_before new went = ends_at new (inl went)
+
+      -- the call for the match returned an error
+      pub stops_at : (at new : O) (e : E) (g : F) → Appends (taken out) (taken at) (slice_range text s m.start) → MayWriteFor bytes taken step f m (slice_range text m.start m.end) at (Err e) new g
+          → IsReplacedSoFar bytes taken text step (done ++ m ∷ []) first old new
+      stops_at at new e g went call = ends_at new (inr (at, went, inl (e, g, call)))
+
+    -- the rest went out
+    pub all_out : (new : O) → Appends (taken out) (taken new) (drop s text) → IsReplaced bytes taken text step done first old new
+    all_out new went =
+        let P : List ℕ → Type 0 = λ l. IsReplaced bytes taken l step (done ++ []) first old new in
+        let Q : List (Match V) → Type 0 = λ l. IsReplaced bytes taken text step l first old new in
+        let R : List ℕ → Type 0 = λ l. Appends (taken out) (taken new) (drop s l) in
+        subst Q (append-nil done) (subst P (append-nil text) (h.all [] [] new tt (subst R (sym (append-nil text)) went)))
+
+    -- or a beginning of it
+    pub stops_behind : (new : O) → AppendsBeginning (taken out) (taken new) (drop s text) → IsReplacedSoFar bytes taken text step done first old new
+    stops_behind new went =
+        let P : List ℕ → Type 0 = λ l. IsReplacedSoFar bytes taken l step (done ++ []) first old new in
+        let Q : List (Match V) → Type 0 = λ l. IsReplacedSoFar bytes taken text step l first old new in
+        let R : List ℕ → Type 0 = λ l. AppendsBeginning (taken out) (taken new) (drop s l) in
+        subst Q (append-nil done) (subst P (append-nil text) (h.some [] [] new tt (subst R (sym (append-nil text)) went)))

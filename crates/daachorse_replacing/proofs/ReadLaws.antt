@@ -1,0 +1,130 @@
+-- What a reader gave went to the output with each match replaced: its bytes, or the characters that they spell.
+use Rattle.std.proofs.Common.{◌≡◌, ℕ, inl, inr, List, [], ◌∷◌, ◌++◌, Option, Some, None, Result, refl, sym, ap, ◌∙◌, subst, append-nil}
+use Rattle.std.proofs.lemmas.Bool.{false≢true}
+use Rattle.std.proofs.lemmas.List.{map-id}
+use Rattle.std.proofs.lemmas.List.Elements.{All-cons, All-nil}
+use Rattle.std.specs.Prelude.{All, IfSome, IsSome, ⊤, flat_map}
+use Rattle.std.specs.Borrow.{MutBor}
+use Rattle.std.specs.Char.{IsScalar, encode_utf8}
+use Rattle.std.specs.Io.KnownBytes.{Consumes, IsAtEnd}
+use Rattle.std.specs.Iterator.{Yields}
+use Rattle.std.specs.Str.{encode_utf8_all}
+use Rattle.std.specs.declared.io.Error.{Error}
+use Rattle.std.proofs.KnownBytes.{Consumes-nil, Consumes-trans}
+use Rattle.daachorse_model.specs.declared.Match.{Match}
+use Rattle.daachorse_search.specs.Readers.{GivesByte, GivesCharacter, Reading, to_read}
+use Rattle.daachorse_replacing.specs.ReplacedWith.{IsReplaced, IsReplacedSoFar}
+use Rattle.daachorse_replacing.specs.Streams.{IsReadReplaced, IsReadReplacedSoFar, IsStreamed, IsStreamedSoFar}
+use Rattle.daachorse_replacing.proofs.LeadsOn.{so_far_nothing}
+
+-- what was taken to the end is all that was known
+all_taken : (a b : Option (List ℕ)) (text : List ℕ) → Consumes a b text → IsAtEnd b → IfSome a (λ left. left ≡ text)
+all_taken None b text took ends = tt
+all_taken (Some xs) None text took ends = absurd took
+all_taken (Some xs) (Some ys) text took ends = took ∙ ap (λ l. text ++ l) ends ∙ append-nil text
+
+-- and what was taken is a beginning of it
+some_taken : (a b : Option (List ℕ)) (text : List ℕ) → Consumes a b text → IfSome a (λ left. (rest : List ℕ) × (left ≡ text ++ rest))
+some_taken None b text took = tt
+some_taken (Some xs) None text took = absurd took
+some_taken (Some xs) (Some ys) text took = (ys, took)
+
+bytes_are : (units : List ℕ) → flat_map (λ b. b ∷ []) units ≡ units
+bytes_are [] = refl
+bytes_are (b ∷ units) = ap (λ l. b ∷ l) (bytes_are units)
+
+characters_are : (units : List ℕ) → flat_map encode_utf8 units ≡ encode_utf8_all units
+characters_are [] = refl
+characters_are (c ∷ units) = ap (λ l. encode_utf8 c ++ l) (characters_are units)
+
+module _ {R : Type 0} (known : R → Option (List ℕ)) where
+  byte_taken : (s : Reading R) (bytes : List ℕ) (t : Reading R) → Yields (GivesByte known) s bytes t → Consumes (known s.reader) (known t.reader) bytes
+  byte_taken s [] t same = subst (λ (x : Reading R). Consumes (known s.reader) (known x.reader) []) same (Consumes-nil (known s.reader))
+  byte_taken s (b ∷ bytes) t (j, gave, run) = Consumes-trans (known s.reader) (known j.reader) (known t.reader) (b ∷ []) bytes gave.0 (byte_taken j bytes t run)
+
+  characters_taken : (s : Reading R) (units : List ℕ) (t : Reading R) → Yields (GivesCharacter known) s units t → Consumes (known s.reader) (known t.reader) (encode_utf8_all units)
+  characters_taken s [] t same = subst (λ (x : Reading R). Consumes (known s.reader) (known x.reader) []) same (Consumes-nil (known s.reader))
+  characters_taken s (c ∷ units) t (j, gave, run) =
+      Consumes-trans (known s.reader) (known j.reader) (known t.reader) (encode_utf8 c) (encode_utf8_all units) (byte_taken s (encode_utf8 c) j gave.1) (characters_taken j units t run)
+
+  are_scalars : (s : Reading R) (units : List ℕ) (t : Reading R) → Yields (GivesCharacter known) s units t → All IsScalar units
+  are_scalars s [] t same = All-nil IsScalar
+  are_scalars s (c ∷ units) t (j, gave, run) = All-cons IsScalar c units gave.0 (are_scalars j units t run)
+
+  at_end : (s t : Reading R) → GivesCharacter known s None t → t.failure ≡ None → IsAtEnd (known s.reader)
+  at_end s t (inl gave) whole = gave.1 whole
+  at_end s t (inr fails) whole = absurd (false≢true (subst IsSome whole fails.failed))
+
+  starts_from : {source : Reading R} {reader : R} {left : Option (List ℕ)} → source ≡ to_read reader → known reader ≡ left → known source.reader ≡ left
+  starts_from reads same = ap (λ (x : Reading R). known x.reader) reads ∙ same
+
+module _ {V P O F R : Type 0} {bytes : P → List ℕ} {taken : O → Option (List ℕ)} {step : F → Match V → P → MutBor O → Result (Unit {0}) Error → MutBor O → F → Type 0}
+    {found matches : List ℕ → List (Match V)} (known : R → Option (List ℕ)) {source : Reading R} {reader : R} {f : F} {old new : O} {left : Option (List ℕ)}
+    (reads : source ≡ to_read reader) (same : known reader ≡ left) (alike : found ≡ matches) where
+  pub read-bytes : IsStreamed bytes taken step (GivesByte known) (λ (s : Reading R). s.failure) (λ b. b) (λ b. b ∷ []) found source f old new → IsReadReplaced bytes taken step (λ b. ⊤) (λ b. b) left matches f old new
+  read-bytes h = record {
+    units = h.units;
+    are = λ k d inside. tt;
+    all =
+        subst (λ o. IfSome o (λ l. l ≡ h.units)) (starts_from known reads same)
+        (all_taken (known source.reader) (known h.last.reader) h.units (byte_taken known source h.units h.last h.took) (h.ends.1 h.whole));
+    replaced =
+        let Q : List ℕ → List ℕ → Type 0 = λ text units. IsReplaced bytes taken text step (found units) f old new in
+        let M : (List ℕ → List (Match V)) → Type 0 = λ m. IsReplaced bytes taken h.units step (m h.units) f old new in
+        subst M alike (subst (λ text. Q text h.units) (bytes_are h.units) (subst (λ units. Q (flat_map (λ b. b ∷ []) h.units) units) (map-id h.units) h.replaced));
+  }
+
+  pub read-some_bytes : IsStreamedSoFar bytes taken step (GivesByte known) (λ (s : Reading R). s.failure) (λ b. b) (λ b. b ∷ []) found source f old new → IsReadReplacedSoFar bytes taken step (λ b. ⊤) (λ b. b) left matches f old new
+  read-some_bytes h = record {
+    units = h.units;
+    are = λ k d inside. tt;
+    begins =
+        subst (λ o. IfSome o (λ l. (rest : List ℕ) × (l ≡ h.units ++ rest))) (starts_from known reads same)
+        (some_taken (known source.reader) (known h.last.reader) h.units (byte_taken known source h.units h.last h.took));
+    replaced =
+        let Q : List ℕ → List ℕ → Type 0 = λ text units. IsReplacedSoFar bytes taken text step (found units) f old new in
+        let M : (List ℕ → List (Match V)) → Type 0 = λ m. IsReplacedSoFar bytes taken h.units step (m h.units) f old new in
+        subst M alike (subst (λ text. Q text h.units) (bytes_are h.units) (subst (λ units. Q (flat_map (λ b. b ∷ []) h.units) units) (map-id h.units) h.replaced));
+  }
+
+  pub read-characters : IsStreamed bytes taken step (GivesCharacter known) (λ (s : Reading R). s.failure) (λ c. c) encode_utf8 found source f old new → IsReadReplaced bytes taken step IsScalar encode_utf8_all left matches f old new
+  read-characters h = record {
+    units = h.units;
+    are = are_scalars known source h.units h.last h.took;
+    all =
+        subst (λ o. IfSome o (λ l. l ≡ encode_utf8_all h.units)) (starts_from known reads same)
+        (all_taken (known source.reader) (known h.last.reader) (encode_utf8_all h.units) (characters_taken known source h.units h.last h.took) (at_end known h.last h.ended h.ends h.whole));
+    replaced =
+        let Q : List ℕ → List ℕ → Type 0 = λ text units. IsReplaced bytes taken text step (found units) f old new in
+        let M : (List ℕ → List (Match V)) → Type 0 = λ m. IsReplaced bytes taken (encode_utf8_all h.units) step (m h.units) f old new in
+        subst M alike (subst (λ text. Q text h.units) (characters_are h.units) (subst (λ units. Q (flat_map encode_utf8 h.units) units) (map-id h.units) h.replaced));
+  }
+
+  pub read-some_characters : IsStreamedSoFar bytes taken step (GivesCharacter known) (λ (s : Reading R). s.failure) (λ c. c) encode_utf8 found source f old new
+      → IsReadReplacedSoFar bytes taken step IsScalar encode_utf8_all left matches f old new
+  read-some_characters h = record {
+    units = h.units;
+    are = are_scalars known source h.units h.last h.took;
+    begins =
+        subst (λ o. IfSome o (λ l. (rest : List ℕ) × (l ≡ encode_utf8_all h.units ++ rest))) (starts_from known reads same)
+        (some_taken (known source.reader) (known h.last.reader) (encode_utf8_all h.units) (characters_taken known source h.units h.last h.took));
+    replaced =
+        let Q : List ℕ → List ℕ → Type 0 = λ text units. IsReplacedSoFar bytes taken text step (found units) f old new in
+        let M : (List ℕ → List (Match V)) → Type 0 = λ m. IsReplacedSoFar bytes taken (encode_utf8_all h.units) step (m h.units) f old new in
+        subst M alike (subst (λ text. Q text h.units) (characters_are h.units) (subst (λ units. Q (flat_map encode_utf8 h.units) units) (map-id h.units) h.replaced));
+  }
+
+-- nothing was read yet
+pub read-nothing : {V P O E F : Type 0} (bytes : P → List ℕ) (taken : O → Option (List ℕ)) (step : F → Match V → P → MutBor O → Result (Unit {0}) E → MutBor O → F → Type 0)
+    (is_unit : ℕ → Type 0) (spelled : List ℕ → List ℕ) (known : Option (List ℕ)) (matches : List ℕ → List (Match V)) (f : F) (old : O) → spelled [] ≡ []
+    → IsReadReplacedSoFar bytes taken step is_unit spelled known matches f old old
+read-nothing bytes taken step is_unit spelled known matches f old none = record {
+  units = [];
+  are = All-nil is_unit;
+  begins = by known;
+  replaced = so_far_nothing bytes taken step f old (spelled []) 0 (matches []);
+}
+  where
+    by : (o : Option (List ℕ)) → IfSome o (λ l. (rest : List ℕ) × (l ≡ spelled [] ++ rest))
+    by None = tt
+    by (Some xs) = (xs, sym (ap (λ l. l ++ xs) none))

@@ -1,0 +1,76 @@
+-- What comes of a stream: what a source gave, with each match replaced by what a call appends to an output.
+use Rattle.std.specs.Prelude.{◌≡◌, ◌≢◌, ◌⊎◌, ℕ, ◌+◌, ◌-◌, ◌≤◌, List, [], ◌++◌, drop, take, length, map, flat_map, All, Option, Some, None, IfSome, Result, Ok, Err}
+use Rattle.std.specs.Borrow.{MutBor}
+use Rattle.std.specs.Io.KnownBytes.{Appends}
+use Rattle.std.specs.Iterator.{Yields}
+use Rattle.std.specs.declared.io.Error.{Error}
+use Rattle.daachorse_model.specs.declared.Match.{Match}
+use Rattle.daachorse_model.specs.Dictionary.{Dictionary}
+use Rattle.daachorse_model.specs.Units.{size}
+use Rattle.daachorse_replacing.specs.Replaced.{AppendsBeginning}
+use Rattle.daachorse_replacing.specs.ReplacedWith.{IsReplaced, IsReplacedSoFar}
+
+-- no key takes more bytes
+abbrev pub HasNoLonger : {V : Type 0} → (ℕ → ℕ) → Dictionary V → ℕ → Type 0
+HasNoLonger width K longest = (w : List ℕ) → K w ≢ [] → size width w ≤ longest
+
+-- the match is within these bytes, at their end
+abbrev pub EndsWithin : {V : Type 0} → List ℕ → Match V → Type 0
+EndsWithin held m = (m.start ≤ m.end) × (m.end ≤ m.start + length held)
+
+-- how many of these bytes come before the match that they end with
+abbrev pub before_match : {V : Type 0} → List ℕ → Match V → ℕ
+before_match held m = length held - (m.end - m.start)
+
+module _ {V P O E F : Type 0} (bytes : P → List ℕ) (taken : O → Option (List ℕ)) (step : F → Match V → P → MutBor O → Result (Unit {0}) E → MutBor O → F → Type 0) where
+  -- a call of f for the match and for these bytes may return r, and takes the output from `old` to `new` and f to g
+  abbrev pub MayWriteFor : F → Match V → List ℕ → O → Result (Unit {0}) E → O → F → Type 0
+  MayWriteFor f m matched old r new g =
+      (part : P) × (shown : MutBor O) × (left : MutBor O) × (bytes part ≡ matched) × (shown.now ≡ old) × (left.now ≡ new) × step f m part shown r left g
+
+  -- Of the bytes held, what no later match may need went out. With no match, n of them did, if at least `longest` stay. With one, the bytes before it did, its call was made, and none stay.
+  abbrev pub Settles : ℕ → Option (Match V) → List ℕ → F → O → List ℕ → F → O → Type 0
+  Settles longest None held f old rest g new =
+      (n : ℕ) × ((n ≡ 0) ⊎ (n + longest ≤ length held)) × (n ≤ length held) × Appends (taken old) (taken new) (take n held) × (rest ≡ drop n held) × (g ≡ f)
+  Settles longest (Some m) held f old rest g new =
+      (at : O) × Appends (taken old) (taken at) (take (before_match held m) held) × MayWriteFor f m (drop (before_match held m) held) at (Ok tt) new g × (rest ≡ [])
+
+  -- the same up to a refusal: of the output, or of the call
+  abbrev pub SettlesSoFar : Option (Match V) → List ℕ → F → O → O → Type 0
+  SettlesSoFar None held f old new = AppendsBeginning (taken old) (taken new) held
+  SettlesSoFar (Some m) held f old new =
+      AppendsBeginning (taken old) (taken new) (take (before_match held m) held)
+      ⊎ ((at : O) × (e : E) × (g : F) × Appends (taken old) (taken at) (take (before_match held m) held) × MayWriteFor f m (drop (before_match held m) held) at (Err e) new g)
+
+  module _ {S U : Type 0} (steps : S → Option U → S → Type 0) (failure : S → Option Error) (unit : U → ℕ) (form : U → List ℕ) (matches : List ℕ → List (Match V)) where
+    -- the source came to its end, and the bytes of what it gave went to the output with each match replaced
+    pub record IsStreamed (s : S) (f : F) (old new : O) : Type 0 where
+      pub units : List U
+      pub last : S
+      pub ended : S
+      pub took : Yields steps s units last
+      pub ends : steps last None ended
+      pub whole : failure ended ≡ None
+      pub replaced : IsReplaced bytes taken (flat_map form units) step (matches (map unit units)) f old new
+
+    -- the source gave these units, and their bytes went to the output up to a refusal
+    pub record IsStreamedSoFar (s : S) (f : F) (old new : O) : Type 0 where
+      pub units : List U
+      pub last : S
+      pub took : Yields steps s units last
+      pub replaced : IsReplacedSoFar bytes taken (flat_map form units) step (matches (map unit units)) f old new
+
+  module _ (is_unit : ℕ → Type 0) (spelled : List ℕ → List ℕ) (known : Option (List ℕ)) (matches : List ℕ → List (Match V)) where
+    -- units whose bytes are all that a reader had left, where that is known, went to the output with each match replaced
+    pub record IsReadReplaced (f : F) (old new : O) : Type 0 where
+      pub units : List ℕ
+      pub are : All is_unit units
+      pub all : IfSome known (λ left. left ≡ spelled units)
+      pub replaced : IsReplaced bytes taken (spelled units) step (matches units) f old new
+
+    -- units whose bytes are a beginning of that did so, up to a refusal
+    pub record IsReadReplacedSoFar (f : F) (old new : O) : Type 0 where
+      pub units : List ℕ
+      pub are : All is_unit units
+      pub begins : IfSome known (λ left. (rest : List ℕ) × (left ≡ spelled units ++ rest))
+      pub replaced : IsReplacedSoFar bytes taken (spelled units) step (matches units) f old new

@@ -1,0 +1,6 @@
+-- No interruption lost a byte.
+use Rattle.std.specs.Io.KnownBytes.{Keeps}
+use Rattle.daachorse_search.proofs.reader.take_lasting.Given as goal
+
+abbrev pub invariant-loop : goal.invariant-loop
+invariant-loop g l = Keeps (g.R.Read.remaining l.fn.reader) (g.R.Read.remaining l.reader)

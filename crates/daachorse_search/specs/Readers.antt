@@ -1,0 +1,79 @@
+-- A search over a reader: what callers see of the source that reads it, and what each call gives.
+use Rattle.std.specs.Prelude.{◌≡◌, ◌≢◌, ℕ, ◌+◌, ◌*◌, ◌-◌, ◌^◌, ◌<◌, ◌⊎◌, List, [], ◌∷◌, length, Option, Some, None, IfSome, IsSome, Result, Ok, Err, ⊤}
+use Rattle.std.specs.Char.{IsScalar, encode_utf8}
+use Rattle.std.specs.Io.KnownBytes.{Consumes, IsAtEnd, Keeps}
+use Rattle.std.specs.IoError.{error_kind}
+use Rattle.std.specs.Io.Buffered.{reader_buffer, reader_inner, reader_remaining}
+use Rattle.std.specs.declared.io.BufReader.{BufReader}
+use Rattle.std.specs.Iterator.{Count, Yields, at_most, count_map}
+use Rattle.std.specs.Option.{option_map}
+use Rattle.std.specs.declared.io.Error.{Error}
+use Rattle.std.specs.declared.io.ErrorKind.TheVariants.{Interrupted}
+use Rattle.daachorse_model.specs.declared.Match.{Match}
+use Rattle.daachorse_model.specs.Units.{char_width, size}
+use Rattle.daachorse_haystack.specs.Sources.{MayRead}
+use Rattle.daachorse_search.specs.Searches.{GivesFrom, SourceProgress}
+
+-- what callers see of a source that reads a reader R: the reader, how many more of its bytes have places that fit, and the error at which the source ended, if it did
+pub record Reading (R : Type 0) : Type 0 where
+  pub reader : R
+  pub left : ℕ
+  pub failure : Option Error
+
+-- nothing was read yet
+abbrev pub to_read : {R : Type 0} → R → Reading R
+to_read r = record { reader = r; left = 2 ^ 64 - 1; failure = None }
+
+-- A reader with these bytes left, where they are known, gave the next of them, or was at its end.
+abbrev pub TakesNext : Option (List ℕ) → Option ℕ → Option (List ℕ) → Type 0
+TakesNext old (Some b) new = Consumes old new (b ∷ [])
+TakesNext old None new = Keeps old new × IsAtEnd old
+
+-- where `known` is what a reader has left, if that is known
+module _ {R : Type 0} (known : R → Option (List ℕ)) where
+  -- a call took the reader's next byte, or none, and then the reader is at its end or the source failed
+  abbrev pub GivesByte : Reading R → Option ℕ → Reading R → Type 0
+  GivesByte s (Some b) t = Consumes (known s.reader) (known t.reader) (b ∷ []) × (t.left + 1 ≡ s.left)
+  GivesByte s None t = Keeps (known s.reader) (known t.reader) × (t.failure ≡ None → IsAtEnd (known s.reader))
+
+  -- where these bytes were taken, the places of all that are left fit
+  abbrev pub MayReadBytes : Reading R → List ℕ → Type 0
+  MayReadBytes = MayRead (λ _. ⊤) GivesByte (λ s. at_most s.left)
+
+  -- some bytes were taken, and then the source failed
+  pub record Fails (s t : Reading R) : Type 0 where
+    pub bytes : List ℕ
+    pub took : Consumes (known s.reader) (known t.reader) bytes
+    pub failed : IsSome t.failure
+
+  -- A call took the bytes of the reader's next character and no others. Or the reader was at its end, or the source failed, as it does at bytes that are no UTF-8.
+  abbrev pub GivesCharacter : Reading R → Option ℕ → Reading R → Type 0
+  GivesCharacter s (Some c) t = IsScalar c × Yields GivesByte s (encode_utf8 c) t
+  GivesCharacter s None t = GivesByte s None t ⊎ Fails s t
+
+-- where these characters were taken, the places of all bytes that are left fit
+abbrev pub MayReadCharacters : {R : Type 0} → Reading R → List ℕ → Type 0
+MayReadCharacters s read = size char_width read + s.left < 2 ^ 64
+
+-- the reader by blocks, with nothing read ahead
+pub record IsInBlocks {R A : Type 0} (known : R → Option (List ℕ)) (reader : R) (blocks : BufReader R A) : Type 0 where
+  pub inner : reader_inner blocks ≡ reader
+  pub ahead : reader_buffer blocks ≡ []
+  pub left : reader_remaining known blocks ≡ known reader
+
+-- an error other than an interruption, after which a read is tried again
+abbrev pub IsLasting : Error → Type 0
+IsLasting e = error_kind e ≢ Interrupted
+
+module _ {V A S U : Type 0} (found : A → List ℕ → List (Match V)) (steps : S → Option U → S → Type 0) (left : S → Count) (unit : U → ℕ) (width : ℕ → ℕ) (failure : S → Option Error) where
+  -- A call gives the next match. Behind the last match it gives the error at which the source ended, if it did, and then nothing for ever.
+  abbrev pub GivesRead : Option (SourceProgress V A S) → Option (Result (Match V) Error) → Option (SourceProgress V A S) → Type 0
+  GivesRead (Some s) (Some (Ok m)) (Some t) = GivesFrom found steps left unit width s (Some m) t
+  GivesRead (Some s) r None = (t : SourceProgress V A S) × GivesFrom found steps left unit width s None t × (r ≡ option_map Err (failure t.source)) × IfSome (failure t.source) IsLasting
+  GivesRead None None None = ⊤
+  GivesRead s r t = ⊥
+
+-- the most items that a call may still give: the matches, and an error
+abbrev pub items_to_read : {V A S : Type 0} → (S → Count) → Option (SourceProgress V A S) → Count
+items_to_read left None = at_most 0
+items_to_read left (Some s) = count_map (λ n. length s.pending + s.most * n + 1) (left s.source)

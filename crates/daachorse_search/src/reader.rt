@@ -1,0 +1,173 @@
+//! Sources that read from a reader, up to its end or its first error.
+
+ghost use Rattle.std.specs.Prelude.{◌≡◌, [], Option, IfErr, IfOk, IfSome, IsSome, OnErr};
+ghost use Rattle.std.specs.IoError.{error_kind};
+ghost use Rattle.std.specs.declared.io.Error.{Error};
+ghost use Rattle.std.specs.declared.io.ErrorKind.TheVariants.{OutOfMemory};
+ghost use Rattle.std.specs.Io.KnownBytes.{Keeps};
+ghost use Rattle.daachorse_search.specs.Readers.{IsInBlocks, IsLasting, MayReadBytes, TakesNext, to_read};
+
+use daachorse_core::ascii_fold::AsciiFold;
+use daachorse_haystack::source::Source;
+use std::alloc::Allocator;
+use std::io::{self, BufRead, BufReader, ErrorKind, Read};
+use std::marker::Model;
+
+/// A source that reads from a reader, and may fail.
+pub trait ReadSource<U: AsciiFold>: Source<U> {
+    /// The error at which it ended, if it did.
+    ghost failure: { Self → Option Error };
+
+    /// Returns the error at which it ended, or `None` if the reader came to its end.
+    fn into_failure(self) -> Option<io::Error>
+        ensures failure { result ≡ failure self }
+        ensures lasting { IfSome result IsLasting };
+}
+
+// How many bytes a block holds.
+const BLOCK: usize = 65536;
+
+/// Reads by blocks of 64 KiB, which take the one allocation.
+pub fn in_blocks<R: Read, A: Allocator>(alloc: A, reader: R) -> io::Result<BufReader<R, A>>
+where
+    R: Drop,
+    ensures reads { IfOk result (IsInBlocks R.remaining reader) }
+    ensures err { IfErr result (λ e. error_kind e ≡ OutOfMemory) }
+{
+    BufReader::with_capacity(alloc, BLOCK, reader)
+}
+
+/// The bytes of a reader.
+#[derive(Drop)]
+pub struct ReadBytes<R> {
+    reader: R,
+    // How many more bytes have a place that fits.
+    left: u64,
+    failure: Option<io::Error>,
+}
+
+impl<R> Model for ReadBytes<R> {
+    ghost use Rattle.std.specs.Prelude.{IfSome};
+    ghost use Rattle.daachorse_search.specs.Readers.{IsLasting, Reading};
+
+    ghost Value = { Reading R };
+
+    ghost view = { λ s. record { reader = s.reader; left = s.left; failure = s.failure } };
+
+    ghost invariant = { λ s. IfSome s.failure IsLasting };
+}
+
+impl<R: BufRead> ReadBytes<R> {
+    /// What the reader gives from here on.
+    pub fn new(reader: R) -> Self
+        ensures reader { result ≡ to_read reader }
+        ensures may { MayReadBytes R.remaining result [] }
+    {
+        Self {
+            reader,
+            left: u64::MAX,
+            failure: None,
+        }
+    }
+
+    /// Fails at what was read last, which is no UTF-8, unless it has failed.
+    pub(crate) fn refuse_text(&mut self)
+        ensures reader { self.new.reader ≡ self.old.reader }
+        ensures failure { IsSome self.new.failure }
+    {
+        if self.failure.is_none() {
+            self.failure = Some(io::Error::from(ErrorKind::InvalidData));
+        }
+    }
+}
+
+impl<R: BufRead> Iterator for ReadBytes<R>
+where
+    R: Drop,
+{
+    ghost use Rattle.std.specs.Iterator.{at_most};
+    ghost use Rattle.daachorse_search.specs.Readers.{GivesByte};
+
+    type Item = u8;
+
+    ghost next_gives = { GivesByte R.remaining };
+
+    ghost remaining = { λ s. at_most s.left };
+
+    #[inline(always)]
+    fn next(&mut self) -> Option<u8> {
+        if self.left == 0 {
+            self.failure = Some(io::Error::from(ErrorKind::FileTooLarge));
+            return None;
+        }
+        match take_lasting(&mut self.reader) {
+            Ok(Some(byte)) => {
+                self.left -= 1;
+                Some(byte)
+            }
+            Ok(None) => None,
+            Err(error) => {
+                self.failure = Some(error);
+                None
+            }
+        }
+    }
+}
+
+impl<R: BufRead> Source<u8> for ReadBytes<R>
+where
+    R: Drop,
+{
+    ghost use Rattle.std.specs.Iterator.{at_most};
+    ghost use Rattle.std.specs.Prelude.{⊤};
+    ghost use Rattle.daachorse_haystack.specs.ByteSources.{MayRead-ready, MayRead-kept};
+    ghost use Rattle.daachorse_search.specs.Readers.{GivesByte, MayReadBytes};
+
+    ghost may_read = { MayReadBytes R.remaining };
+
+    ghost ready = { MayRead-ready (λ _. ⊤) (GivesByte R.remaining) (λ s. at_most s.left) };
+
+    ghost kept = { λ s read xs t may took fewer ready. MayRead-kept (λ _. ⊤) (GivesByte R.remaining) (λ s. at_most s.left) s read xs t _ may took fewer ready };
+}
+
+impl<R: BufRead> ReadSource<u8> for ReadBytes<R>
+where
+    R: Drop,
+{
+    ghost failure = { λ s. s.failure };
+
+    fn into_failure(self) -> Option<io::Error> {
+        self.failure
+    }
+}
+
+/// Takes the next byte, or returns `None` at the end. Tries again after an interruption.
+#[inline(always)]
+fn take_lasting<R: BufRead>(reader: &mut R) -> io::Result<Option<u8>>
+    ensures taken { IfOk result (λ byte. TakesNext (R.remaining reader.old) byte (R.remaining reader.new)) }
+    ensures kept { OnErr result (Keeps (R.remaining reader.old) (R.remaining reader.new)) }
+    ensures lasting { IfErr result IsLasting }
+{
+    for _ in 0..u64::MAX {
+        match take_byte(reader) {
+            Err(error) if error.kind() == ErrorKind::Interrupted => {}
+            taken => return taken,
+        }
+    }
+    Err(io::Error::from(ErrorKind::TimedOut))
+}
+
+/// Takes the next byte, or returns `None` at the end.
+#[inline(always)]
+fn take_byte<R: BufRead>(reader: &mut R) -> io::Result<Option<u8>>
+    ensures taken { IfOk result (λ byte. TakesNext (R.remaining reader.old) byte (R.remaining reader.new)) }
+    ensures kept { OnErr result (Keeps (R.remaining reader.old) (R.remaining reader.new)) }
+{
+    let shown = reader.fill_buf()?;
+    if shown.is_empty() {
+        return Ok(None);
+    }
+    let byte = shown[0];
+    reader.consume(1);
+    Ok(Some(byte))
+}

@@ -1,0 +1,225 @@
+//! What is written of a stream whose matches are replaced, over bytes and over characters.
+
+ghost use Rattle.std.specs.Prelude.{◌≡◌};
+ghost use Rattle.daachorse_model.specs.declared.MatchKind.TheVariants.{Standard};
+
+use crate::automata::{Bytewise, Charwise};
+use crate::expect;
+use crate::replaced::{Narrow, is_beginning, write_bracketed};
+use daachorse::bytewise::Accelerated as BytewiseRows;
+use daachorse::charwise::Accelerated as CharwiseRows;
+use daachorse::{CharwiseDoubleArrayAhoCorasick, DoubleArrayAhoCorasick};
+use std::alloc::Global;
+use std::io::{self, ErrorKind, Read, Write};
+use std::test::Fail;
+
+/// What a row shows, the patterns, what a reader gives, and that with each match in brackets.
+type Row = (
+    &'static str,
+    &'static [&'static str],
+    &'static str,
+    &'static str,
+);
+
+const ROWS: &[Row] = &[
+    ("each match", &["ab", "cd"], "xabcdx", "x[ab][cd]x"),
+    (
+        "the first ends",
+        &["ab", "abcd", "cd"],
+        "xabcd",
+        "x[ab][cd]",
+    ),
+    ("a match that breaks off", &["abc"], "ababab", "ababab"),
+    ("an empty pattern", &["", "b"], "ab", "[]a[]b[]"),
+    ("no patterns", &[], "ab", "ab"),
+    ("nothing is read", &["a"], "", ""),
+    ("longer characters", &["世界", "界"], "に世界界", "に[世界][界]"),
+];
+
+/// A reader that gives at most three bytes a call, and is interrupted before each.
+#[derive(Drop)]
+struct Slow {
+    left: &'static [u8],
+    is_ready: bool,
+}
+
+impl Read for Slow {
+    fn read(&mut self, room: &mut [u8]) -> io::Result<usize> {
+        self.is_ready = !self.is_ready;
+        if self.is_ready {
+            return Err(io::Error::from(ErrorKind::Interrupted));
+        }
+        let count = room.len().min(3);
+        self.left.read(&mut room[..count])
+    }
+}
+
+fn slowly(left: &'static [u8]) -> Slow {
+    Slow {
+        left,
+        is_ready: false,
+    }
+}
+
+fn brackets_bytes<R: Read + Drop, W: Write>(
+    words: &Bytewise,
+    alloc: Global,
+    reader: R,
+    out: &mut W,
+) -> io::Result<()>
+    requires { words.now.parts.kind ≡ Standard }
+{
+    words.replace_all_from_reader(alloc, reader, out, write_bracketed)
+}
+
+fn brackets_characters<R: Read + Drop, W: Write>(
+    words: &Charwise,
+    alloc: Global,
+    reader: R,
+    out: &mut W,
+) -> io::Result<()>
+    requires { words.now.parts.kind ≡ Standard }
+{
+    words.replace_all_from_reader(alloc, reader, out, write_bracketed)
+}
+
+fn brackets_bytes_over_rows<R: Read + Drop, W: Write>(
+    words: &BytewiseRows<u32>,
+    alloc: Global,
+    reader: R,
+    out: &mut W,
+) -> io::Result<()>
+    requires { words.now.automaton.parts.kind ≡ Standard }
+{
+    words.replace_all_from_reader(alloc, reader, out, write_bracketed)
+}
+
+fn brackets_characters_over_rows<R: Read + Drop, W: Write>(
+    words: &CharwiseRows<u32>,
+    alloc: Global,
+    reader: R,
+    out: &mut W,
+) -> io::Result<()>
+    requires { words.now.automaton.parts.kind ≡ Standard }
+{
+    words.replace_all_from_reader(alloc, reader, out, write_bracketed)
+}
+
+/// Whether an automaton over bytes writes what a row says, up to the room of the writer.
+fn holds_over_bytes(alloc: Global, row: &Row) -> io::Result<bool> {
+    let (_, patterns, text, expected) = *row;
+    let words: Bytewise = DoubleArrayAhoCorasick::new(
+        alloc,
+        patterns.iter().map(|p| p.as_bytes()),
+    )?;
+    for room in 0..expected.len() + 2 {
+        let mut writer = Narrow {
+            room,
+            taken: Vec::new(alloc),
+        };
+        let outcome = brackets_bytes(&words, alloc, slowly(text.as_bytes()), &mut writer);
+        if !is_beginning(outcome, &writer, room, expected.as_bytes()) {
+            return Ok(false);
+        }
+    }
+    Ok(true)
+}
+
+/// Whether an automaton over characters writes what a row says, up to the room of the writer.
+fn holds_over_characters(alloc: Global, row: &Row) -> io::Result<bool> {
+    let (_, patterns, text, expected) = *row;
+    let words: Charwise = CharwiseDoubleArrayAhoCorasick::new(alloc, patterns.iter().copied())?;
+    for room in 0..expected.len() + 2 {
+        let mut writer = Narrow {
+            room,
+            taken: Vec::new(alloc),
+        };
+        let outcome = brackets_characters(&words, alloc, slowly(text.as_bytes()), &mut writer);
+        if !is_beginning(outcome, &writer, room, expected.as_bytes()) {
+            return Ok(false);
+        }
+    }
+    Ok(true)
+}
+
+/// Whether an automaton over bytes writes what a row says, with rows.
+fn holds_over_rows_of_bytes(alloc: Global, row: &Row) -> io::Result<bool> {
+    let (_, patterns, text, expected) = *row;
+    let words: Bytewise = DoubleArrayAhoCorasick::new(
+        alloc,
+        patterns.iter().map(|p| p.as_bytes()),
+    )?;
+    let Ok(rows) = words.accelerate(alloc) else {
+        return Ok(false);
+    };
+    let mut out = Vec::new(alloc);
+    brackets_bytes_over_rows(&rows, alloc, slowly(text.as_bytes()), &mut out)?;
+    Ok(out.as_slice() == expected.as_bytes())
+}
+
+/// Whether an automaton over characters writes what a row says, with rows.
+fn holds_over_rows_of_characters(alloc: Global, row: &Row) -> io::Result<bool> {
+    let (_, patterns, text, expected) = *row;
+    let words: Charwise = CharwiseDoubleArrayAhoCorasick::new(alloc, patterns.iter().copied())?;
+    let Ok(rows) = words.accelerate(alloc) else {
+        return Ok(false);
+    };
+    let mut out = Vec::new(alloc);
+    brackets_characters_over_rows(&rows, alloc, slowly(text.as_bytes()), &mut out)?;
+    Ok(out.as_slice() == expected.as_bytes())
+}
+
+#[test]
+fn streams_are_replaced(rt: HostRuntime) -> Result<(), Fail> {
+    for row in ROWS {
+        expect(&rt, holds_over_bytes(rt.alloc(), row)?, row.0);
+        expect(&rt, holds_over_characters(rt.alloc(), row)?, row.0);
+        expect(&rt, holds_over_rows_of_bytes(rt.alloc(), row)?, row.0);
+        expect(&rt, holds_over_rows_of_characters(rt.alloc(), row)?, row.0);
+    }
+    Ok(())
+}
+
+/// A text of several blocks, most of it no match and some of it matches across their ends.
+fn long_text(alloc: Global) -> io::Result<Vec<u8>> {
+    let mut text = Vec::new(alloc);
+    for place in 0..200_000u32 {
+        text.push(if place % 1_000 == 0 { b'b' } else { b'a' })?;
+    }
+    Ok(text)
+}
+
+/// Whether a stream comes out as the whole text does.
+fn is_as_whole(alloc: Global, patterns: &[&[u8]]) -> io::Result<bool> {
+    let text = long_text(alloc)?;
+    let words: Bytewise = DoubleArrayAhoCorasick::new(alloc, patterns.iter().copied())?;
+    let mut streamed = Vec::new(alloc);
+    brackets_bytes(&words, alloc, &text[..], &mut streamed)?;
+    let mut whole = Vec::new(alloc);
+    words.replace_all_into_with(&text, &mut whole, write_bracketed)?;
+    Ok(streamed == whole && streamed.len() > text.len())
+}
+
+#[test]
+fn blocks_are_joined(rt: HostRuntime) -> Result<(), Fail> {
+    let across: &[&[u8]] = &[b"aba", b"aab"];
+    expect(&rt, is_as_whole(rt.alloc(), across)?, "short patterns");
+    let long = [b'a'; 70_000];
+    let longest: &[&[u8]] = &[&long, b"ab"];
+    expect(&rt, is_as_whole(rt.alloc(), longest)?, "a long pattern");
+    Ok(())
+}
+
+#[test]
+fn text_that_is_no_utf8_ends_a_stream(rt: HostRuntime) -> Result<(), Fail> {
+    let words: Charwise = CharwiseDoubleArrayAhoCorasick::new(rt.alloc(), ["ab"])?;
+    let mut out = Vec::new(rt.alloc());
+    let outcome = brackets_characters(&words, rt.alloc(), slowly(b"xab\xffab"), &mut out);
+    let is_refused = matches!(&outcome, Err(error) if error.kind() == ErrorKind::InvalidData);
+    expect(
+        &rt,
+        is_refused && out.as_slice() == b"x[ab]".as_slice(),
+        "bytes that are no UTF-8",
+    );
+    Ok(())
+}

@@ -29,6 +29,7 @@ FILES = {
         "daachorse_charwise/src/charwise/written.rt",
         "daachorse_charwise/src/charwise/accelerated.rt"],
     "daachorse::bytewise::iter, daachorse::charwise::iter": [
+        "daachorse_search/src/stepper.rt",
         "daachorse_search/src/find_stepper.rt", "daachorse_search/src/overlapping_stepper.rt",
         "daachorse_search/src/matches.rt", "daachorse_search/src/matches_from.rt",
         "daachorse_search/src/matches_from_reader.rt", "daachorse_search/src/leftmost.rt"],

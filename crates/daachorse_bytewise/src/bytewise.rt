@@ -477,7 +477,8 @@ impl<V: Copy, A: Allocator> DoubleArrayAhoCorasick<V, A> {
         ensures { BeginsStepping (states_of self.entry.now) self.entry.now.depths self.entry.now.folds
             (option_to_list (standard_after byte_width (dictionary_of self.entry.now) [])) result }
     {
-        FindStepper::new(self.states.standard(), &self.depths, self.folds)
+        let walk = FindWalk::new(self.states.standard());
+        FindStepper::new(walk, &self.depths, self.folds)
     }
 
     /// Starts the search of [`Self::find_overlapping_iter`], to be given one byte at a time.
@@ -488,7 +489,8 @@ impl<V: Copy, A: Allocator> DoubleArrayAhoCorasick<V, A> {
         ensures { BeginsStepping (states_of self.entry.now) self.entry.now.depths self.entry.now.folds
             (matches_after byte_width (dictionary_of self.entry.now) []) result }
     {
-        FindOverlappingStepper::new(self.states.standard(), &self.depths, self.folds)
+        let walk = OverlappingWalk::new(self.states.standard());
+        FindOverlappingStepper::new(walk, &self.depths, self.folds)
     }
 
     /// Resumes a search of [`Self::find_stepper`] over this automaton. Places still count from the

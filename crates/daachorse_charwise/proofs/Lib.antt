@@ -4,4 +4,3 @@ pub mod BuildLaws
 pub mod TextLaws
 pub use Rattle.daachorse_search.proofs.MatchesLaws
 pub mod RowedLaws
-pub mod GatheredLaws

@@ -491,7 +491,8 @@ impl<V: Copy, A: Allocator> CharwiseDoubleArrayAhoCorasick<V, A> {
         ensures { BeginsStepping (states_of self.entry.now) self.entry.now.depths self.entry.now.folds
             (option_to_list (standard_after char_width (dictionary_of self.entry.now) [])) result }
     {
-        FindStepper::new(self.states.standard(), &self.depths, self.folds)
+        let walk = FindWalk::new(self.states.standard());
+        FindStepper::new(walk, &self.depths, self.folds)
     }
 
     /// Starts the search of [`Self::find_overlapping_iter`], to be given one character at a time.
@@ -502,6 +503,7 @@ impl<V: Copy, A: Allocator> CharwiseDoubleArrayAhoCorasick<V, A> {
         ensures { BeginsStepping (states_of self.entry.now) self.entry.now.depths self.entry.now.folds
             (matches_after char_width (dictionary_of self.entry.now) []) result }
     {
-        FindOverlappingStepper::new(self.states.standard(), &self.depths, self.folds)
+        let walk = OverlappingWalk::new(self.states.standard());
+        FindOverlappingStepper::new(walk, &self.depths, self.folds)
     }
 }

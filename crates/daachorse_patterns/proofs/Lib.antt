@@ -1,5 +1,6 @@
 pub mod UnitTries
 pub mod BuiltLaws
+pub mod GatheredLaws
 pub mod RefusalLaws
 pub mod IndexLaws
 pub mod LinksBack

@@ -10,8 +10,7 @@ use Rattle.daachorse_model.specs.declared.Match.{Match}
 use Rattle.daachorse_model.specs.Laws.{Follows}
 use Rattle.daachorse_model.proofs.Overlap.{Follows-earlier}
 use Rattle.daachorse_replacing.specs.Replaced.{AppendsBeginning}
-use Rattle.daachorse_replacing.specs.ReplacedWith.{IsReplaced, IsReplacedFrom, IsReplacedSoFar, IsReplacedSoFarFrom}
-use Rattle.daachorse_replacing.specs.Streams.{MayWriteFor}
+use Rattle.daachorse_replacing.specs.ReplacedWith.{IsReplaced, IsReplacedFrom, IsReplacedSoFar, IsReplacedSoFarFrom, MayWriteFor}
 
 -- a beginning of a part is one of the whole
 pub AppendsBeginning-take : (old new : Option (List ℕ)) (n : ℕ) (text : List ℕ) → AppendsBeginning old new (take n text) → AppendsBeginning old new text
@@ -110,7 +109,7 @@ module _ {V P O E F : Type 0} (bytes : P → List ℕ) (taken : O → Option (Li
       matched_is more = within text more m.start m.end ordered (omega (arith, ends))
 
       -- the match went out
-      pub leads_behind : (at next : O) (g : F) → Appends (taken out) (taken at) (slice_range text s m.start) → MayWriteFor bytes taken step f m (slice_range text m.start m.end) at (Ok tt) next g
+      pub leads_behind : (at next : O) (g : F) → Appends (taken out) (taken at) (slice_range text s m.start) → MayWriteFor bytes step f m (slice_range text m.start m.end) at (Ok tt) next g
           → LeadsOn text (done ++ m ∷ []) m.end g next
       leads_behind at next g went (p, shown, left, is, was, then, call) = record {
         all = λ more ms new after rest.
@@ -134,7 +133,7 @@ module _ {V P O E F : Type 0} (bytes : P → List ℕ) (taken : O → Option (Li
       stops_before new went = ends_at new (inl went)
 
       -- the call for the match returned an error
-      pub stops_at : (at new : O) (e : E) (g : F) → Appends (taken out) (taken at) (slice_range text s m.start) → MayWriteFor bytes taken step f m (slice_range text m.start m.end) at (Err e) new g
+      pub stops_at : (at new : O) (e : E) (g : F) → Appends (taken out) (taken at) (slice_range text s m.start) → MayWriteFor bytes step f m (slice_range text m.start m.end) at (Err e) new g
           → IsReplacedSoFar bytes taken text step (done ++ m ∷ []) first old new
       stops_at at new e g went call = ends_at new (inr (at, went, inl (e, g, call)))
 

@@ -10,8 +10,8 @@ use Rattle.daachorse_model.specs.Matches.{last_end, standard, standard_after}
 use Rattle.daachorse_model.specs.Units.{size}
 use Rattle.daachorse_model.proofs.Suffixes.{size-append}
 use Rattle.daachorse_replacing.specs.Replaced.{AppendsBeginning}
-use Rattle.daachorse_replacing.specs.ReplacedWith.{IsReplaced, IsReplacedSoFar}
-use Rattle.daachorse_replacing.specs.Streams.{EndsWithin, HasNoLonger, MayWriteFor, Settles, SettlesSoFar, before_match}
+use Rattle.daachorse_replacing.specs.ReplacedWith.{IsReplaced, IsReplacedSoFar, MayWriteFor}
+use Rattle.daachorse_replacing.specs.Streams.{EndsWithin, HasNoLonger, Settles, SettlesSoFar, before_match}
 use Rattle.daachorse_replacing.proofs.LeadsOn.{LeadsOn, all_out, leads_behind, leads_from_start, leads_over, leads_past, stops_at, stops_before, stops_behind}
 use Rattle.daachorse_replacing.proofs.StandardMatches.{EndsHere, last_end-push, standard-behind, standard_after-ends}
 
@@ -69,7 +69,7 @@ module _ {V P O E F : Type 0} (bytes : P → List ℕ) (taken : O → Option (Li
       matched_is =
           ap (drop (before_match held m)) h.holds ∙ drop-drop (before_match held m) h.sent text ∙ ap (λ k. drop k text) place ∙ sym (rest_is text m.start m.end (ends.ends ∙ sym h.sized))
 
-      sent-matched : (at next : O) (g : F) → Appends (taken out) (taken at) (take (before_match held m) held) → MayWriteFor bytes taken step f m (drop (before_match held m) held) at (Ok tt) next g
+      sent-matched : (at next : O) (g : F) → Appends (taken out) (taken at) (take (before_match held m) held) → MayWriteFor bytes step f m (drop (before_match held m) held) at (Ok tt) next g
           → IsSent text read (done ++ m ∷ []) [] g next
       sent-matched at next g went call = record {
         sent = m.end;
@@ -79,7 +79,7 @@ module _ {V P O E F : Type 0} (bytes : P → List ℕ) (taken : O → Option (Li
         behind = inl (omega (arith, last_end-push 0 done m));
         leads = leads_behind bytes taken step first old text done h.sent f out h.leads m starts ends.ordered (ends.ends ∙ sym h.sized) at next g
             (subst (Appends (taken out) (taken at)) before_is went)
-            (let C : List ℕ → Type 0 = λ l. MayWriteFor bytes taken step f m l at (Ok tt) next g in subst C matched_is call);
+            (let C : List ℕ → Type 0 = λ l. MayWriteFor bytes step f m l at (Ok tt) next g in subst C matched_is call);
       }
 
       unsent-matched : (new : O) → SettlesSoFar bytes taken step (Some m) held f out new → IsReplacedSoFar bytes taken text step (done ++ m ∷ []) first old new
@@ -88,7 +88,7 @@ module _ {V P O E F : Type 0} (bytes : P → List ℕ) (taken : O → Option (Li
       unsent-matched new (inr (at, e, g, went, call)) =
           stops_at bytes taken step first old text done h.sent f out h.leads m starts ends.ordered (ends.ends ∙ sym h.sized) at new e g
           (subst (Appends (taken out) (taken at)) before_is went)
-          (let C : List ℕ → Type 0 = λ l. MayWriteFor bytes taken step f m l at (Err e) new g in subst C matched_is call)
+          (let C : List ℕ → Type 0 = λ l. MayWriteFor bytes step f m l at (Err e) new g in subst C matched_is call)
 
       within-matched : EndsWithin held m
       within-matched = (ends.ordered, omega (arith, count, starts, ends.ends, h.sized, h.inside))

@@ -5,12 +5,16 @@ use Rattle.std.specs.Io.KnownBytes.{Appends}
 use Rattle.daachorse_model.specs.declared.Match.{Match}
 use Rattle.daachorse_replacing.specs.Replaced.{AppendsBeginning, with_pieces}
 
+module _ {V P O E F : Type 0} (bytes : P → List ℕ) (step : F → Match V → P → MutBor O → Result (Unit {0}) E → MutBor O → F → Type 0) where
+  -- a call of f for the match, and for these bytes that it is, may return r, and takes the output from `old` to `new` and f to g
+  abbrev pub MayWriteFor : F → Match V → List ℕ → O → Result (Unit {0}) E → O → F → Type 0
+  MayWriteFor f m matched old r new g =
+      (part : P) × (shown : MutBor O) × (left : MutBor O) × (bytes part ≡ matched) × (shown.now ≡ old) × (left.now ≡ new) × step f m part shown r left g
+
 module _ {V P O E F : Type 0} (bytes : P → List ℕ) (taken : O → Option (List ℕ)) (haystack : List ℕ) (step : F → Match V → P → MutBor O → Result (Unit {0}) E → MutBor O → F → Type 0) where
-  -- a call of f for the match, and for the part of the haystack that it is, may return r, and takes the output from `old` to `new` and f to g
+  -- the same for the part of the haystack that the match is
   abbrev pub MayWrite : F → Match V → O → Result (Unit {0}) E → O → F → Type 0
-  MayWrite f m old r new g =
-      (part : P) × (shown : MutBor O) × (left : MutBor O) × (bytes part ≡ slice_range haystack m.start m.end) × (shown.now ≡ old) × (left.now ≡ new)
-      × step f m part shown r left g
+  MayWrite f m old r new g = MayWriteFor bytes step f m (slice_range haystack m.start m.end) old r new g
 
   -- from s on, with these matches left: the bytes up to a match are appended, and then the call for it is made; the bytes after the last come last
   abbrev pub IsReplacedFrom : ℕ → List (Match V) → F → O → O → Type 0

@@ -8,7 +8,7 @@ use Rattle.daachorse_model.specs.declared.Match.{Match}
 use Rattle.daachorse_model.specs.Dictionary.{Dictionary}
 use Rattle.daachorse_model.specs.Units.{size}
 use Rattle.daachorse_replacing.specs.Replaced.{AppendsBeginning}
-use Rattle.daachorse_replacing.specs.ReplacedWith.{IsReplaced, IsReplacedSoFar}
+use Rattle.daachorse_replacing.specs.ReplacedWith.{IsReplaced, IsReplacedSoFar, MayWriteFor}
 
 -- no key takes more bytes
 abbrev pub HasNoLonger : {V : Type 0} → (ℕ → ℕ) → Dictionary V → ℕ → Type 0
@@ -23,24 +23,19 @@ abbrev pub before_match : {V : Type 0} → List ℕ → Match V → ℕ
 before_match held m = length held - (m.end - m.start)
 
 module _ {V P O E F : Type 0} (bytes : P → List ℕ) (taken : O → Option (List ℕ)) (step : F → Match V → P → MutBor O → Result (Unit {0}) E → MutBor O → F → Type 0) where
-  -- a call of f for the match and for these bytes may return r, and takes the output from `old` to `new` and f to g
-  abbrev pub MayWriteFor : F → Match V → List ℕ → O → Result (Unit {0}) E → O → F → Type 0
-  MayWriteFor f m matched old r new g =
-      (part : P) × (shown : MutBor O) × (left : MutBor O) × (bytes part ≡ matched) × (shown.now ≡ old) × (left.now ≡ new) × step f m part shown r left g
-
   -- Of the bytes held, what no later match may need went out. With no match, n of them did, if at least `longest` stay. With one, the bytes before it did, its call was made, and none stay.
   abbrev pub Settles : ℕ → Option (Match V) → List ℕ → F → O → List ℕ → F → O → Type 0
   Settles longest None held f old rest g new =
       (n : ℕ) × ((n ≡ 0) ⊎ (n + longest ≤ length held)) × (n ≤ length held) × Appends (taken old) (taken new) (take n held) × (rest ≡ drop n held) × (g ≡ f)
   Settles longest (Some m) held f old rest g new =
-      (at : O) × Appends (taken old) (taken at) (take (before_match held m) held) × MayWriteFor f m (drop (before_match held m) held) at (Ok tt) new g × (rest ≡ [])
+      (at : O) × Appends (taken old) (taken at) (take (before_match held m) held) × MayWriteFor bytes step f m (drop (before_match held m) held) at (Ok tt) new g × (rest ≡ [])
 
   -- the same up to a refusal: of the output, or of the call
   abbrev pub SettlesSoFar : Option (Match V) → List ℕ → F → O → O → Type 0
   SettlesSoFar None held f old new = AppendsBeginning (taken old) (taken new) held
   SettlesSoFar (Some m) held f old new =
       AppendsBeginning (taken old) (taken new) (take (before_match held m) held)
-      ⊎ ((at : O) × (e : E) × (g : F) × Appends (taken old) (taken at) (take (before_match held m) held) × MayWriteFor f m (drop (before_match held m) held) at (Err e) new g)
+      ⊎ ((at : O) × (e : E) × (g : F) × Appends (taken old) (taken at) (take (before_match held m) held) × MayWriteFor bytes step f m (drop (before_match held m) held) at (Err e) new g)
 
   module _ {S U : Type 0} (steps : S → Option U → S → Type 0) (failure : S → Option Error) (unit : U → ℕ) (form : U → List ℕ) (matches : List ℕ → List (Match V)) where
     -- the source came to its end, and the bytes of what it gave went to the output with each match replaced

@@ -5,5 +5,4 @@ pub mod appending;
 pub mod listed;
 pub mod piece;
 pub mod replacing;
-pub mod spelled;
 pub mod streaming;

@@ -9,13 +9,14 @@ ghost use Rattle.daachorse_replacing.specs.Replaced.{AppendsBeginning};
 ghost use Rattle.daachorse_replacing.specs.Streams.{EndsWithin, HasNoLonger, IsStreamed, IsStreamedSoFar, Settles, SettlesSoFar};
 
 use crate::appending::write_whole;
-use crate::spelled::Spelled;
 use daachorse_core::Match;
 use daachorse_core::ascii_fold::AsciiFold;
 use daachorse_core::edge_label::EdgeLabel;
 use daachorse_search::automaton::Automaton;
+use daachorse_search::find::FindWalk;
 use daachorse_search::find_stepper::FindStepper;
 use daachorse_search::reader::ReadSource;
+use daachorse_search::step_unit::StepUnit;
 use std::alloc::Allocator;
 use std::io::{self, Write};
 
@@ -50,7 +51,7 @@ pub fn replace_from<
     mut write: F,
 ) -> io::Result<()>
 where
-    A::Unit: Spelled,
+    A::Unit: StepUnit,
     requires standard { IsStandard (A.sees automaton) }
     requires may { S.Source.may_read source [] }
     requires longest { HasNoLonger A.Unit.width (A.sees automaton).content longest }
@@ -60,7 +61,8 @@ where
     ensures beginning { OnErr result (IsStreamedSoFar (λ s. s.now) O.contents F.step S.next_gives S.failure A.Unit.unit A.Unit.form
         (λ units. standard A.Unit.width (A.sees automaton).content (as_read folds units)) source write out.old out.new) }
 {
-    let mut stepper = FindStepper::new(automaton, &[], folds);
+    let walk = FindWalk::new(automaton);
+    let mut stepper = FindStepper::new(walk, &[], folds);
     let mut held = Vec::with_capacity(alloc, longest.saturating_add(BLOCK + WIDEST))?;
     'units: loop {
         settle(stepper.matches(), longest, &mut held, out, &mut write)?;

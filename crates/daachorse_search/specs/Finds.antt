@@ -1,13 +1,10 @@
 -- Where the standard search stands.
-use Rattle.std.specs.Prelude.{◌≡◌, ◌≢◌, ℕ, ◌<◌, [], take, length, Option, Some, None, IfSome}
+use Rattle.std.specs.Prelude.{◌≡◌, ◌≢◌, ℕ, [], Option, Some, None}
 use Rattle.std.specs.declared.num.NonZeroU32.{NonZeroU32}
 use Rattle.daachorse_core.specs.Seen.{SeenUnits, units}
 use Rattle.daachorse_model.specs.Outputs.{own_outputs}
 use Rattle.daachorse_model.specs.Resumed.{IsResumed}
-use Rattle.daachorse_core.specs.Outputs.{number}
-use Rattle.daachorse_search.specs.Searches.{standard_found}
 use Rattle.daachorse_search.specs.Views.{AutomatonView}
-use Rattle.daachorse_search.specs.Walks.{Walked, HasPlace, matches_from}
 
 module _ {V : Type 0} (width : ℕ → ℕ) (view : AutomatonView V) where
   -- no key is empty: the walk began again behind the last match, and looked up all that it read
@@ -26,10 +23,3 @@ module _ {V : Type 0} (width : ℕ → ℕ) (view : AutomatonView V) where
   abbrev pub IsFinding : SeenUnits → ℕ → Option NonZeroU32 → Type 0
   IsFinding seen turns None = IsResuming seen
   IsFinding seen turns (Some position) = IsEverywhere seen turns position.value
-
--- the position is that of the match that ends where the walk stands, if there is one
-module _ {V A : Type 0} (width : ℕ → ℕ) (sees : A → AutomatonView V) where
-  pub record HasFound (walk : Walked A) (found : Option NonZeroU32) : Type 0 where
-    pub place : HasPlace width (sees walk.automaton) walk.seen (number found)
-    pub matches : standard_found width sees walk.automaton (units walk.seen) ≡ take 1 (matches_from width (sees walk.automaton) walk.seen (number found))
-    pub some : IfSome found (λ p. 0 < length (take 1 (matches_from width (sees walk.automaton) walk.seen p.value)))

@@ -3,7 +3,7 @@ use Rattle.std.specs.Prelude.{◌≢◌, ℕ, [], take}
 use Rattle.daachorse_core.specs.Seen.{units}
 use Rattle.daachorse_search.specs.Searches.{all_found, first_found, standard_found}
 use Rattle.daachorse_search.specs.Stepwise.{StepView, AreBounded, AreBoundedSince, looks_unless_empty}
-use Rattle.daachorse_search.specs.Views.{AutomatonView}
+use Rattle.daachorse_search.specs.Views.{AutomatonView, HasDepths}
 use Rattle.daachorse_search.specs.Walks.{Walked, HasPlace, matches_from}
 
 module _ {V A : Type 0} (width : ℕ → ℕ) (sees : A → AutomatonView V) where
@@ -12,6 +12,7 @@ module _ {V A : Type 0} (width : ℕ → ℕ) (sees : A → AutomatonView V) whe
   all_view = record {
     automaton = λ s. s.automaton;
     content = λ a. (sees a).content;
+    has_depths = λ a depths. HasDepths (sees a) depths;
     read = λ s. units s.seen;
     turns = λ s. s.turns;
     found = all_found width sees;

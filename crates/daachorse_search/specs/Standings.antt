@@ -2,10 +2,11 @@
 use Rattle.std.specs.Prelude.{ℕ, Option}
 use Rattle.std.specs.declared.num.NonZeroU32.{NonZeroU32}
 use Rattle.daachorse_core.specs.Seen.{units}
-use Rattle.daachorse_search.specs.Finds.{HasFound, IsFinding}
-use Rattle.daachorse_search.specs.Stepwise.{StandsAt}
+use Rattle.daachorse_search.specs.Finds.{IsFinding}
+use Rattle.daachorse_search.specs.SearchViews.{all_view, standard_view}
+use Rattle.daachorse_search.specs.Stepwise.{StandsAt, Stops}
 use Rattle.daachorse_search.specs.Views.{AutomatonView}
-use Rattle.daachorse_search.specs.Walks.{HasAll, IsFresh, IsWalking, Stood}
+use Rattle.daachorse_search.specs.Walks.{IsFresh, IsWalking, Stood}
 
 -- where a stepper of the standard search stands: its walk, the position of the empty key's outputs, if there is one, how many bytes were consumed, and the position of the match that ends there
 pub record FindStood : Type 0 where
@@ -26,11 +27,11 @@ module _ {V A : Type 0} (width : ℕ → ℕ) (sees : A → AutomatonView V) (a 
     pub walks : IsWalking (sees a) s.walk.seen s.walk.state s.walk.turns
     pub finds : IsFinding width (sees a) s.walk.seen s.walk.turns s.everywhere
     pub stands : StandsAt width (units s.walk.seen) s.place
-    pub found : HasFound width sees (record { automaton = a; seen = s.walk.seen; turns = s.walk.turns }) s.found
+    pub found : Stops (standard_view width sees) (record { automaton = a; seen = s.walk.seen; turns = s.walk.turns }) s.found
 
   -- a stepper of the search for all matches over a stands so
   pub record IsOverlappingStanding (s : OverlappingStood) : Type 0 where
     pub walks : IsWalking (sees a) s.walk.seen s.walk.state s.walk.turns
     pub fresh : IsFresh s.walk.seen
     pub stands : StandsAt width (units s.walk.seen) s.place
-    pub found : HasAll width sees (record { automaton = a; seen = s.walk.seen; turns = s.walk.turns }) s.found
+    pub found : Stops (all_view width sees) (record { automaton = a; seen = s.walk.seen; turns = s.walk.turns }) s.found

@@ -27,6 +27,8 @@ pub record StepView (V A W : Type 0) : Type 1 where
   pub automaton : W → A
   -- the dictionary of the automaton
   pub content : A → Dictionary V
+  -- the depths of its states, or none if none are kept
+  pub has_depths : A → List ℕ → Type 0
   -- the units that were read
   pub read : W → List ℕ
   -- the number of looks at a state

@@ -1,12 +1,10 @@
 -- A walk through an automaton: where it stands after the units that it read.
-use Rattle.std.specs.Prelude.{◌≡◌, ℕ, ◌+◌, ◌*◌, ◌≤◌, List, [], ◌∷◌, ◌++◌, length, count_by, Option}
-use Rattle.std.specs.declared.num.NonZeroU32.{NonZeroU32}
-use Rattle.daachorse_core.specs.Outputs.{number}
+use Rattle.std.specs.Prelude.{◌≡◌, ℕ, ◌+◌, ◌*◌, ◌≤◌, List, [], ◌∷◌, ◌++◌, length, count_by}
 use Rattle.daachorse_core.specs.Seen.{SeenUnits, units}
 use Rattle.daachorse_model.specs.declared.Match.{Match}
 use Rattle.daachorse_model.specs.Units.{size}
 use Rattle.daachorse_model.specs.Dictionary.{Dictionary}
-use Rattle.daachorse_model.specs.Matches.{ending_at, matches_after}
+use Rattle.daachorse_model.specs.Matches.{ending_at}
 use Rattle.daachorse_model.specs.Prefixes.{IsLong}
 use Rattle.daachorse_model.specs.Outputs.{AllWithin, matches_of_outputs}
 use Rattle.daachorse_search.specs.Views.{AutomatonView, IsStandard}
@@ -67,12 +65,6 @@ module _ {V : Type 0} (width : ℕ → ℕ) (view : AutomatonView V) where
     pub few : length (view.outputs position) ≤ view.most_outputs
     pub fits : AllWithin (size width (units seen)) (view.outputs position)
     pub matches : matches_since width view.content seen.before seen.since ≡ matches_from seen position
-
--- the position is that of the first of all matches that end where the walk stands
-module _ {V A : Type 0} (width : ℕ → ℕ) (sees : A → AutomatonView V) where
-  pub record HasAll (walk : Walked A) (found : Option NonZeroU32) : Type 0 where
-    pub place : HasPlace width (sees walk.automaton) walk.seen (number found)
-    pub matches : matches_after width (sees walk.automaton).content (units walk.seen) ≡ matches_from width (sees walk.automaton) walk.seen (number found)
 
 -- The walk stands at the state of the units read since it last began at the root, with these bounds on its turns.
 module _ {V : Type 0} (view : AutomatonView V) where

@@ -147,6 +147,11 @@ impl<V: Copy, A: Automaton<V>> Stepwise<V> for FindWalk<V, A> {
     }
 
     #[inline(always)]
+    fn overlaps(&self) -> bool {
+        false
+    }
+
+    #[inline(always)]
     fn is_at_root(&self) -> bool {
         self.walk.is_at_root()
     }
@@ -172,6 +177,10 @@ impl<V: Copy, A: Automaton<V>> Stepwise<V> for FindWalk<V, A> {
     }
 
     ghost everywhere_keyed = { λ s keyed. keyed };
+
+    ghost cloned = { λ s t same. same };
+
+    ghost clones = { λ s. tt };
 
     ghost no_output = { λ s. (HasPlace-none A.Unit.width (A.sees s.automaton) s.seen (A.no_output s.automaton), first_from-none A.Unit.width (A.sees s.automaton) s.seen (A.no_output s.automaton)) };
 }

@@ -22,6 +22,7 @@ pub mod read_chars;
 pub mod reader;
 pub mod scan;
 pub mod step_unit;
+pub mod stepper;
 pub mod stepwise;
 pub mod view;
 pub mod walk;

@@ -111,6 +111,10 @@ impl<V: Copy, A: Automaton<V>> Stepwise<V> for OverlappingWalk<V, A> {
 
     ghost everywhere_keyed = { λ s never. absurd never };
 
+    ghost cloned = { λ s t same. same };
+
+    ghost clones = { λ s. tt };
+
     ghost no_output = { λ s. (HasPlace-none A.Unit.width (A.sees s.automaton) s.seen (A.no_output s.automaton), matches_from-none A.Unit.width (A.sees s.automaton) s.seen (A.no_output s.automaton)) };
 
     #[inline(always)]
@@ -215,6 +219,10 @@ impl<V: Copy, A: Automaton<V>> Stepwise<V> for NoSuffixWalk<V, A> {
 
     ghost everywhere_keyed = { λ s never. absurd never };
 
+    ghost cloned = { λ s t same. same };
+
+    ghost clones = { λ s. tt };
+
     ghost no_output = { λ s. (HasPlace-none A.Unit.width (A.sees s.automaton) s.seen (A.no_output s.automaton), first_from-none A.Unit.width (A.sees s.automaton) s.seen (A.no_output s.automaton)) };
 
     #[inline(always)]
@@ -260,6 +268,19 @@ impl<V: Copy, A: Automaton<V>> Stepwise<V> for NoSuffixWalk<V, A> {
     #[inline(always)]
     fn turns_are_bounded(&self) {
         self.all.turns_are_bounded();
+    }
+}
+
+impl<V: Copy, A: Automaton<V>> Clone for NoSuffixWalk<V, A> {
+    ghost is_clone = { λ s t. t ≡ s };
+
+    ghost is_infallible = { λ _. Unit {0} };
+
+    #[inline(always)]
+    fn clone(&self) -> Result<Self, AllocError> {
+        Ok(NoSuffixWalk {
+            all: self.all.clone()?,
+        })
     }
 }
 

@@ -1,40 +1,44 @@
-//! Units that steppers can fold.
+//! Units that steppers consume.
+
+ghost use Rattle.std.specs.Prelude.{◌≡◌, ◌++◌, OnOk};
 
 use daachorse_core::ascii_fold::AsciiFold;
+use std::alloc::{AllocError, Allocator};
 
-/// A unit that steppers can fold, with a code-generation hint for each stepper. No result depends
-/// on the hint.
-///
-/// If it is true, looks at folded units are compiled apart, which pays if the caller's loop is
-/// small enough to be compiled twice.
+/// A unit that steppers consume: a byte or a character.
 pub trait StepUnit: AsciiFold {
-    /// The hint for the search for matches that do not overlap.
-    fn finds_apart(&self) -> bool;
+    /// Whether looks at folded units are compiled apart, which pays if the caller's loop is small
+    /// enough to be compiled twice. `overlaps` tells the search for all matches from that for
+    /// matches that do not overlap. No result depends on it.
+    fn folds_apart(&self, overlaps: bool) -> bool;
 
-    /// The hint for the search for all matches.
-    fn finds_overlapping_apart(&self) -> bool;
+    /// Appends the bytes of the unit.
+    fn append_to<A: Allocator>(self, bytes: &mut Vec<u8, A>) -> Result<(), AllocError>
+        ensures { OnOk result (bytes.new.items ≡ bytes.old.items ++ Self.EdgeLabel.form self) };
 }
 
 impl StepUnit for u8 {
     #[inline(always)]
-    fn finds_apart(&self) -> bool {
-        false
+    fn folds_apart(&self, overlaps: bool) -> bool {
+        overlaps
     }
 
     #[inline(always)]
-    fn finds_overlapping_apart(&self) -> bool {
-        true
+    fn append_to<A: Allocator>(self, bytes: &mut Vec<u8, A>) -> Result<(), AllocError> {
+        bytes.push(self)?;
+        Ok(())
     }
 }
 
 impl StepUnit for char {
     #[inline(always)]
-    fn finds_apart(&self) -> bool {
-        true
+    fn folds_apart(&self, overlaps: bool) -> bool {
+        !overlaps
     }
 
     #[inline(always)]
-    fn finds_overlapping_apart(&self) -> bool {
-        false
+    fn append_to<A: Allocator>(self, bytes: &mut Vec<u8, A>) -> Result<(), AllocError> {
+        let mut buffer = [0; 4];
+        bytes.extend_from_slice(self.encode_utf8(&mut buffer).as_bytes())
     }
 }

@@ -13,7 +13,7 @@ use daachorse_core::turns::Turns;
 use std::num::NonZeroU32;
 
 /// A search that reads one unit at a time, and returns what it finds at the end of each.
-pub trait Stepwise<V: Copy>: Drop {
+pub trait Stepwise<V: Copy>: Clone + Drop {
     /// The units of patterns and haystacks: bytes or characters.
     type Unit: EdgeLabel;
 
@@ -46,6 +46,12 @@ pub trait Stepwise<V: Copy>: Drop {
         ensures read { IfSome result (λ _. sees.read self.new ≡ sees.read self.old ++ Self.Unit.unit unit ∷ []) }
         ensures stops { IfSome result (λ _. Stops sees self.new result) }
         ensures some { sees.everywhere self.old → IsSome result };
+
+    /// Whether matches may overlap. A hint for the compiler, which decides no result.
+    #[inline(always)]
+    fn overlaps(&self) -> bool {
+        true
+    }
 
     /// Whether the search is at the root, so that no pattern has begun.
     fn is_at_root(&self) -> bool
@@ -85,4 +91,9 @@ pub trait Stepwise<V: Copy>: Drop {
 
     // Nothing is reported from position 0 on.
     ghost no_output: { (s : Self) → sees.has_output s 0 × (sees.given_from s 0 ≡ []) };
+
+    // A clone is the same walk, and is never refused.
+    ghost cloned: { (s t : Self) → Self.is_clone s t → t ≡ s };
+
+    ghost clones: { (s : Self) → Self.is_infallible s };
 }

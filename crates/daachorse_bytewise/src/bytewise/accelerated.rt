@@ -398,7 +398,7 @@ impl<V: Copy, A: Allocator> Accelerated<V, A> {
             (option_to_list (standard_after byte_width (dictionary_of self.entry.now.automaton) [])) result }
     {
         let folds = self.automaton().is_ascii_case_insensitive();
-        FindStepper::new(self.standard(), &[], folds)
+        FindStepper::new(FindWalk::new(self.standard()), &[], folds)
     }
 
     /// As [`DoubleArrayAhoCorasick::find_overlapping_stepper`], over rows and without depths.
@@ -412,7 +412,7 @@ impl<V: Copy, A: Allocator> Accelerated<V, A> {
             (matches_after byte_width (dictionary_of self.entry.now.automaton) []) result }
     {
         let folds = self.automaton().is_ascii_case_insensitive();
-        FindOverlappingStepper::new(self.standard(), &[], folds)
+        FindOverlappingStepper::new(OverlappingWalk::new(self.standard()), &[], folds)
     }
 
     /// As [`DoubleArrayAhoCorasick::resume_find_stepper`], over these rows.

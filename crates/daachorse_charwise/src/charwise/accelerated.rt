@@ -405,7 +405,7 @@ impl<V: Copy, A: Allocator> Accelerated<V, A> {
             (option_to_list (standard_after char_width (dictionary_of self.entry.now.automaton) [])) result }
     {
         let folds = self.automaton().is_ascii_case_insensitive();
-        FindStepper::new(self.standard(), &[], folds)
+        FindStepper::new(FindWalk::new(self.standard()), &[], folds)
     }
 
     /// As [`CharwiseDoubleArrayAhoCorasick::find_overlapping_stepper`], over rows and without
@@ -420,6 +420,6 @@ impl<V: Copy, A: Allocator> Accelerated<V, A> {
             (matches_after char_width (dictionary_of self.entry.now.automaton) []) result }
     {
         let folds = self.automaton().is_ascii_case_insensitive();
-        FindOverlappingStepper::new(self.standard(), &[], folds)
+        FindOverlappingStepper::new(OverlappingWalk::new(self.standard()), &[], folds)
     }
 }

@@ -9,7 +9,9 @@ use daachorse_core::errors::Result;
 use daachorse_core::{Match, MatchKind};
 use daachorse_patterns::trie::build_trie;
 use daachorse_placement::build_helper::Profile;
+use daachorse_search::find::FindWalk;
 use daachorse_search::find_stepper::FindStepper;
+use daachorse_search::overlapping::OverlappingWalk;
 use daachorse_search::overlapping_stepper::FindOverlappingStepper;
 use std::alloc::Global;
 use std::test::Fail;
@@ -107,7 +109,7 @@ fn siblings_share_blocks(rt: HostRuntime) -> Result<(), Fail> {
 fn told(states: &States<u32>, byte: u8) -> Option<Match<u32>>
     requires { states.now.kind ≡ Standard }
 {
-    let mut stepper = FindStepper::new(states.standard(), &[], false);
+    let mut stepper = FindStepper::new(FindWalk::new(states.standard()), &[], false);
     stepper.consume(byte);
     stepper.matches()
 }
@@ -116,7 +118,11 @@ fn told(states: &States<u32>, byte: u8) -> Option<Match<u32>>
 fn told_first(states: &States<u32>, byte: u8) -> Option<Match<u32>>
     requires { states.now.kind ≡ Standard }
 {
-    let mut stepper = FindOverlappingStepper::new(states.standard(), &[], false);
+    let mut stepper = FindOverlappingStepper::new(
+        OverlappingWalk::new(states.standard()),
+        &[],
+        false,
+    );
     stepper.consume(byte);
     stepper.matches().next()
 }

@@ -27,7 +27,7 @@ units-init g c =
     let S = g.S.Iterator in let label = g.A.Unit.EdgeLabel in
     record {
       callable = c.requires.callable;
-      automaton = c.new-stepper.ensures.automaton;
+      automaton = c.new-stepper.ensures.automaton ∙ c.new-walk.ensures.automaton;
       folds = c.new-stepper.ensures.folds;
       goes =
           goes-first _ _ _ _ _ S.can_next S.next_gives S.remaining _ label.unit label.form label.width _ _ _ _ g.met.A.Unit.EdgeLabel.wide g.met.A.Unit.AsciiFold.as_wide

@@ -3,7 +3,7 @@ use Rattle.std.proofs.Common.{◌≡◌, map, subst, inr}
 use Rattle.std.proofs.lemmas.Result.{IfOk-weaker, IfErr-weaker}
 use Rattle.daachorse_model.specs.Folding.{all_as_read}
 use Rattle.daachorse_bytewise.specs.Building.{IsBuildRefusal, IsBuiltOf, kept_filter}
-use Rattle.daachorse_bytewise.proofs.GatheredLaws.{IsAsked, of_all}
+use Rattle.daachorse_patterns.proofs.GatheredLaws.{IsAsked, of_all}
 use Rattle.daachorse_bytewise.proofs.bytewise.builder.DoubleArrayAhoCorasickBuilder.build.Goals as goal
 
 pub returns : goal.returns

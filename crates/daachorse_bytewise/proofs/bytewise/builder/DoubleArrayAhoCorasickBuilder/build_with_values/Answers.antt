@@ -4,7 +4,7 @@ use Rattle.std.proofs.lemmas.Result.{IfOk-weaker, IfErr-weaker}
 use Rattle.daachorse_model.specs.Dictionary.{registrations_of}
 use Rattle.daachorse_model.specs.Folding.{all_as_read, texts_as_read}
 use Rattle.daachorse_bytewise.specs.Building.{IsBuiltWith, IsRefusalOf, kept_filter}
-use Rattle.daachorse_bytewise.proofs.GatheredLaws.{IsAsked, of_all}
+use Rattle.daachorse_patterns.proofs.GatheredLaws.{IsAsked, of_all}
 use Rattle.daachorse_bytewise.proofs.bytewise.builder.DoubleArrayAhoCorasickBuilder.build_with_values.Goals as goal
 
 pub returns : goal.returns

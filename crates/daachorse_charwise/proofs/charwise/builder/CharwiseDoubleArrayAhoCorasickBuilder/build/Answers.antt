@@ -3,7 +3,7 @@ use Rattle.std.proofs.Common.{◌≡◌, subst, inr}
 use Rattle.std.proofs.lemmas.Result.{IfOk-weaker, IfErr-weaker}
 use Rattle.daachorse_model.specs.Folding.{all_as_read}
 use Rattle.daachorse_charwise.specs.Building.{IsBuildRefusal, IsBuiltOf, kept_filter, texts_of_strings}
-use Rattle.daachorse_charwise.proofs.GatheredLaws.{IsAsked, of_all}
+use Rattle.daachorse_patterns.proofs.GatheredLaws.{IsAsked, of_all}
 use Rattle.daachorse_charwise.proofs.charwise.builder.CharwiseDoubleArrayAhoCorasickBuilder.build.Goals as goal
 
 pub returns : goal.returns

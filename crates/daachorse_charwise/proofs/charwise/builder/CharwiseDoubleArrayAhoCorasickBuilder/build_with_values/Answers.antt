@@ -3,7 +3,7 @@ use Rattle.std.proofs.Common.{◌≡◌, map, subst, inr}
 use Rattle.std.proofs.lemmas.Result.{IfOk-weaker, IfErr-weaker}
 use Rattle.daachorse_model.specs.Folding.{texts_as_read}
 use Rattle.daachorse_charwise.specs.Building.{IsBuiltWith, IsRefusalOf, kept_filter, registrations_of_strings}
-use Rattle.daachorse_charwise.proofs.GatheredLaws.{IsAsked, of_all}
+use Rattle.daachorse_patterns.proofs.GatheredLaws.{IsAsked, of_all}
 use Rattle.daachorse_charwise.proofs.charwise.builder.CharwiseDoubleArrayAhoCorasickBuilder.build_with_values.Goals as goal
 
 pub returns : goal.returns

@@ -3,7 +3,7 @@ use Rattle.std.proofs.Common.{◌≡◌, ◌≢◌, ℕ, List, [], length, Some,
 use Rattle.daachorse_model.specs.Matches.{IsSinceMatch}
 use Rattle.daachorse_model.specs.Prefixes.{IsLong}
 use Rattle.daachorse_search.specs.Stepwise.{Stepped}
-use Rattle.daachorse_search.proofs.find_stepper.FindStepper.depth.Goals as goal
+use Rattle.daachorse_search.proofs.find_stepper.FindStepper+V+A.depth.Goals as goal
 
 pub returns-clause-depth : goal.returns-clause-depth
 returns-clause-depth g c =

@@ -1,7 +1,7 @@
-//! Searches of what is read unit by unit, where its length is not known.
+//! Searches of what is read, where its length is not known.
 //!
-//! A stepper counts the bytes consumed in a `usize`. Before each unit these searches ask whether
-//! its place still fits, which is the condition of `consume`.
+//! A stepper counts the bytes consumed in a `usize`. Before each unit the searches by a stepper ask
+//! whether its place still fits, which is the condition of `consume`.
 
 ghost use Rattle.std.specs.Prelude.{◌≡◌};
 ghost use Rattle.std.specs.Iterator.{IsFinite};
@@ -10,7 +10,8 @@ ghost use Rattle.daachorse_bytewise.specs.Automata as bytes;
 ghost use Rattle.daachorse_charwise.specs.Automata as characters;
 
 use daachorse::{CharwiseDoubleArrayAhoCorasick, DoubleArrayAhoCorasick, Match};
-use std::io::{self, ErrorKind, Read};
+use std::alloc::Global;
+use std::io::{self, ErrorKind, Read, Write};
 
 /// Returns the match that ends first in what a reader gives, and reads no byte past it.
 pub fn first_in_reader<R: Read + Drop>(
@@ -59,4 +60,35 @@ pub fn first_in_characters<I: Iterator<Item = char> + Drop>(
         }
     }
     None
+}
+
+/// Returns how often the words occur in what a reader gives, overlapping ones included, up to
+/// `usize::MAX`.
+pub fn count_in_reader<R: Read + Drop>(
+    words: &DoubleArrayAhoCorasick<u32>,
+    alloc: Global,
+    reader: R,
+) -> io::Result<usize>
+    requires standard { bytes.kind_of words.now ≡ Standard }
+{
+    let mut count = 0usize;
+    for found in words.find_overlapping_iter_from_reader(alloc, reader)? {
+        found?;
+        count = count.saturating_add(1);
+    }
+    Ok(count)
+}
+
+/// Copies what a reader gives to `out`, with the value of each match in brackets in its place.
+pub fn name_matches<R: Read + Drop, W: Write>(
+    words: &DoubleArrayAhoCorasick<u32>,
+    alloc: Global,
+    reader: R,
+    out: &mut W,
+) -> io::Result<()>
+    requires standard { bytes.kind_of words.now ≡ Standard }
+{
+    words.replace_all_from_reader(alloc, reader, out, |found, _matched, out| {
+        write!(out, "[{}]", found.value())
+    })
 }

@@ -5,6 +5,8 @@
 #[cfg(test)]
 mod command;
 #[cfg(test)]
+mod grep;
+#[cfg(test)]
 mod index;
 #[cfg(test)]
 mod own_values;

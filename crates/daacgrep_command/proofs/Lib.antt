@@ -1,0 +1,4 @@
+pub mod Cuts
+pub mod Requests
+pub mod Selected
+pub mod Writing

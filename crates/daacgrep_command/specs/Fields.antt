@@ -1,0 +1,17 @@
+-- A text behind its labels.
+use Rattle.std.specs.Prelude.{ℕ, Bool, true, false, List, [], ◌∷◌, ◌++◌, decimal}
+use Rattle.daacgrep_command.specs.declared.printing.Labels.{Labels}
+
+-- a name with a colon behind it, where it is wanted
+abbrev pub name_field : Bool → List ℕ → List ℕ
+name_field true name = name ++ 58 ∷ []
+name_field false name = []
+
+-- a number with a colon behind it, where it is wanted
+abbrev pub number_field : Bool → ℕ → List ℕ
+number_field true n = decimal n ++ 58 ∷ []
+number_field false n = []
+
+-- a text behind its labels, and a line feed
+abbrev pub entry : Labels → List ℕ → ℕ → ℕ → List ℕ → List ℕ
+entry labels name number place text = name_field labels.names name ++ (number_field labels.numbers number ++ (number_field labels.places place ++ (text ++ 10 ∷ [])))

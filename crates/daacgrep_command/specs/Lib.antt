@@ -1,0 +1,5 @@
+pub mod Fields
+pub mod Flags
+pub mod Lines
+pub mod Options
+pub mod Printed

@@ -1,0 +1,22 @@
+-- The lines of a text, with their numbers and places.
+use Rattle.std.specs.Prelude.{ℕ, ◌+◌, List, [], ◌∷◌, length}
+use Rattle.daachorse_model.specs.Program.{pattern_lines}
+use Rattle.daacgrep_command.specs.declared.line.Line.{Line}
+
+-- a line: its number, the place of its first byte, and its bytes
+pub record TextLine : Type 0 where
+  pub number : ℕ
+  pub start : ℕ
+  pub bytes : List ℕ
+
+abbrev pub seen : Line → TextLine
+seen line = record { number = line.number; start = line.start; bytes = line.bytes.now }
+
+-- these pieces as the lines of a text from `start` on, of which `before` lines stand before them
+abbrev pub lines_from : ℕ → ℕ → List (List ℕ) → List TextLine
+lines_from before start [] = []
+lines_from before start (piece ∷ pieces) = record { number = before + 1; start = start; bytes = piece } ∷ lines_from (before + 1) (start + length piece + 1) pieces
+
+-- the lines of a text: the pieces between line feeds, less an empty one at the end
+abbrev pub lines_of : List ℕ → List TextLine
+lines_of text = lines_from 0 0 (pattern_lines text)

@@ -1,0 +1,143 @@
+-- What the words of a command line ask for.
+use Rattle.std.specs.Prelude.{◌≡◌, ⊤, ℕ, ◌-◌, ◌==◌, ◌||◌, Bool, true, false, not, nat_lt, slice_index, length, take, drop, Result, OnOk, IfErr, List, [], ◌∷◌, ◌++◌, Option, Some, None, codes, map, if◌then◌else◌}
+use Rattle.std.specs.List.{Contains, filter_map, list_any}
+use Rattle.daacgrep_command.specs.declared.flag.Flag.{Flag}
+use Rattle.daacgrep_command.specs.declared.options.OptionError.{OptionError}
+use Rattle.daacgrep_command.specs.declared.options.OptionError.TheVariants.{Unknown, Missing, OutOfMemory}
+use Rattle.daacgrep_command.specs.declared.options.Role.{Role}
+use Rattle.daacgrep_command.specs.declared.options.Role.TheVariants.{Any, Pattern, PatternFile, File}
+use Rattle.daacgrep_command.specs.declared.options.Shape.{Shape}
+use Rattle.daacgrep_command.specs.declared.options.Shape.TheVariants.{Name, Letters, Long, End}
+use Rattle.daacgrep_command.specs.Flags.{flag_of}
+
+-- what a word, or a letter of it, asks for: a flag; a pattern, a file of patterns or a file that is searched; or nothing that is known, and nothing without an argument
+pub data Request : Type 0 where
+  AsksFor : Flag → Request
+  Gives : List ℕ → Request
+  NamesPatterns : List ℕ → Request
+  Names : List ℕ → Request
+  IsUnknown : List ℕ → Request
+  Lacks : List ℕ → Request
+
+-- the flag that is written so; else the word is unknown
+abbrev pub flag_or_unknown : List ℕ → Option Flag → Request
+flag_or_unknown word None = IsUnknown word
+flag_or_unknown word (Some flag) = AsksFor flag
+
+-- what letters ask for
+abbrev pub letters_ask : List ℕ → List ℕ → List Request
+letters_ask word letters = map (λ c. flag_or_unknown word (flag_of (45 ∷ c ∷ []))) letters
+
+-- the last of some letters
+abbrev pub last_letter : List ℕ → ℕ
+last_letter letters = slice_index letters (length letters - 1)
+
+-- the letters of a group that ask for flags: all but an e or an f at the end
+abbrev pub flag_letters : List ℕ → List ℕ
+flag_letters letters = if last_letter letters == 101 || last_letter letters == 102 then take (length letters - 1) letters else letters
+
+-- how the word behind a group is read: after an e at its end as a pattern, after an f as the name of a file of patterns
+abbrev pub role_behind : List ℕ → Role
+role_behind letters = if last_letter letters == 101 then Pattern else (if last_letter letters == 102 then PatternFile else Any)
+
+-- a word of one letter, or that begins with no dash, is a name; behind one dash stand letters, behind two a long option, or nothing where options end
+abbrev pub shape_of : List ℕ → Shape
+shape_of word = if nat_lt (length word) 2 || not (slice_index word 0 == 45) then Name else (if not (slice_index word 1 == 45) then Letters else (if nat_lt 2 (length word) then Long else End))
+
+-- what a word of this shape asks for, and how the word behind it is read
+abbrev pub asked_as : Shape → List ℕ → List Request
+asked_as Name word = Names word ∷ []
+asked_as Letters word = letters_ask word (flag_letters (drop 1 word))
+asked_as Long word = flag_or_unknown word (flag_of word) ∷ []
+asked_as End word = []
+
+abbrev pub role_as : Shape → List ℕ → Role
+role_as Name word = Any
+role_as Letters word = role_behind (drop 1 word)
+role_as Long word = Any
+role_as End word = File
+
+abbrev pub asked : List ℕ → List Request
+asked word = asked_as (shape_of word) word
+
+abbrev pub role_of_word : List ℕ → Role
+role_of_word word = role_as (shape_of word) word
+
+-- what a word asks for, by how it is read
+abbrev pub asked_by : Role → List ℕ → List Request
+asked_by Any word = asked word
+asked_by Pattern word = Gives word ∷ []
+asked_by PatternFile word = NamesPatterns word ∷ []
+asked_by File word = Names word ∷ []
+
+-- how the word behind it is read
+abbrev pub role_after : Role → List ℕ → Role
+role_after Any word = role_of_word word
+role_after Pattern word = Any
+role_after PatternFile word = Any
+role_after File word = File
+
+-- what is missing where no word is left
+abbrev pub unmet : Role → List Request
+unmet Any = []
+unmet Pattern = Lacks (codes "-e") ∷ []
+unmet PatternFile = Lacks (codes "-f") ∷ []
+unmet File = []
+
+-- what the words ask for, one after the other
+abbrev pub requests : Role → List (List ℕ) → List Request
+requests role [] = unmet role
+requests role (word ∷ words) = asked_by role word ++ requests (role_after role word) words
+
+-- what was asked for: flags, patterns, files of patterns, and files that are searched
+pub record Asked : Type 0 where
+  pub flags : List Flag
+  pub patterns : List (List ℕ)
+  pub pattern_files : List (List ℕ)
+  pub files : List (List ℕ)
+
+abbrev pub flag_in : Request → Option Flag
+flag_in (AsksFor flag) = Some flag
+flag_in _ = None
+
+abbrev pub pattern_in : Request → Option (List ℕ)
+pattern_in (Gives text) = Some text
+pattern_in _ = None
+
+abbrev pub pattern_file_in : Request → Option (List ℕ)
+pattern_file_in (NamesPatterns name) = Some name
+pattern_file_in _ = None
+
+abbrev pub file_in : Request → Option (List ℕ)
+file_in (Names name) = Some name
+file_in _ = None
+
+-- what requests ask for, in their order
+abbrev pub options_of : List Request → Asked
+options_of rs = record { flags = filter_map flag_in rs; patterns = filter_map pattern_in rs; pattern_files = filter_map pattern_file_in rs; files = filter_map file_in rs }
+
+-- what is asked for first, and then more
+abbrev pub joined : Asked → Asked → Asked
+joined a b = record { flags = a.flags ++ b.flags; patterns = a.patterns ++ b.patterns; pattern_files = a.pattern_files ++ b.pattern_files; files = a.files ++ b.files }
+
+-- a request that cannot be met
+abbrev pub is_wrong : Request → Bool
+is_wrong (IsUnknown word) = true
+is_wrong (Lacks option) = true
+is_wrong _ = false
+
+-- each of them can be met
+abbrev pub AreKnown : List Request → Type 0
+AreKnown rs = list_any is_wrong rs ≡ false
+
+-- the error names a request among these that cannot be met
+abbrev pub IsCause : OptionError → List Request → Type 0
+IsCause (Unknown word) rs = Contains rs (IsUnknown word.now)
+IsCause (Missing option) rs = Contains rs (Lacks option.now)
+IsCause (OutOfMemory e) rs = ⊤
+
+-- they are all taken, where each can be met; else the error names one that cannot
+pub record Takes {T : Type 0} (old new : Asked) (rs : List Request) (r : Result T OptionError) : Type 0 where
+  pub known : OnOk r (AreKnown rs)
+  pub taken : OnOk r (new ≡ joined old (options_of rs))
+  pub cause : IfErr r (λ e. IsCause e rs)

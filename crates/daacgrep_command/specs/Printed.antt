@@ -1,0 +1,75 @@
+-- The text that is written of a file.
+use Rattle.std.specs.Prelude.{ℕ, ◌+◌, ◌==◌, Bool, true, false, not, List, [], ◌∷◌, ◌++◌, Option, Some, None, count_by, decimal, flat_map, slice_range, if◌then◌else◌}
+use Rattle.std.specs.Borrow.{Bor}
+use Rattle.std.specs.List.{list_any}
+use Rattle.daachorse_model.specs.declared.Match.{Match}
+use Rattle.daachorse_model.specs.Dictionary.{Dictionary}
+use Rattle.daachorse_model.specs.Folding.{as_read}
+use Rattle.daachorse_model.specs.Leftmost.{leftmost}
+use Rattle.daachorse_model.specs.Matches.{overlapping}
+use Rattle.daachorse_model.specs.Units.{byte_width}
+use Rattle.daacgrep_command.specs.declared.printing.Labels.{Labels}
+use Rattle.daacgrep_command.specs.declared.search.Report.{Report}
+use Rattle.daacgrep_command.specs.declared.search.Report.TheVariants.{Lines, Matches, Count, Name, Nothing}
+use Rattle.daacgrep_command.specs.declared.search.Task.{Task}
+use Rattle.daacgrep_command.specs.Fields.{entry, name_field}
+use Rattle.daacgrep_command.specs.Lines.{TextLine, lines_of}
+
+-- a list has an element
+abbrev pub has_any : {X : Type 0} → List X → Bool
+has_any [] = false
+has_any (x ∷ xs) = true
+
+-- what is written of a match: nothing, where it is empty, and else its part of the line behind its own labels
+abbrev pub match_text : Labels → List ℕ → TextLine → Match ℕ → List ℕ
+match_text labels name line m = if m.start == m.end then [] else entry labels name line.number (line.start + m.start) (slice_range line.bytes m.start m.end)
+
+-- what is written of a file of this name, by a search for the patterns of a dictionary in lines as they are read
+module _ (K : Dictionary ℕ) (folds : Bool) where
+  -- a pattern occurs in the line
+  abbrev pub occurs : List ℕ → Bool
+  occurs line = has_any (overlapping byte_width K (as_read folds line))
+
+  -- the line is selected: a pattern occurs in it, or where that is inverted none does
+  abbrev pub is_selected : Bool → List ℕ → Bool
+  is_selected inverts line = if inverts then not (occurs line) else occurs line
+
+  -- a line is selected, and how many are
+  abbrev pub has_selected : Bool → List TextLine → Bool
+  has_selected inverts lines = list_any (λ line. is_selected inverts line.bytes) lines
+
+  abbrev pub selected_count : Bool → List TextLine → ℕ
+  selected_count inverts lines = count_by (λ line. is_selected inverts line.bytes) lines
+
+  module _ (labels : Labels) (name : List ℕ) where
+    -- of a line: its leftmost matches
+    abbrev pub matches_text : TextLine → List ℕ
+    matches_text line = flat_map (match_text labels name line) (leftmost byte_width K (as_read folds line.bytes))
+
+    -- of a selected line: the line or its matches
+    abbrev pub line_text : Report → TextLine → List ℕ
+    line_text Lines line = entry labels name line.number line.start line.bytes
+    line_text Matches line = matches_text line
+    line_text Count line = []
+    line_text Name line = []
+    line_text Nothing line = []
+
+  module _ (task : Task) (name : List ℕ) where
+    -- of a line: nothing, unless it is selected
+    abbrev pub part_of_line : TextLine → List ℕ
+    part_of_line line = if is_selected task.inverts line.bytes then line_text task.labels name task.report line else []
+
+    -- of all lines
+    abbrev pub lines_text : List TextLine → List ℕ
+    lines_text lines = flat_map part_of_line lines
+
+    -- of a report: each selected line or its matches, or the number of lines, or the name where a line is selected
+    abbrev pub report_text : Report → List TextLine → List ℕ
+    report_text Lines lines = lines_text lines
+    report_text Matches lines = lines_text lines
+    report_text Count lines = name_field task.labels.names name ++ (decimal (selected_count task.inverts lines) ++ 10 ∷ [])
+    report_text Name lines = if has_selected task.inverts lines then name ++ 10 ∷ [] else []
+    report_text Nothing lines = []
+
+    abbrev pub file_text : List ℕ → List ℕ
+    file_text text = report_text task.report (lines_of text)

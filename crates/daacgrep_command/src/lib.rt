@@ -1,0 +1,12 @@
+//! The command of the program `daacgrep`: prints the lines of files in which a pattern occurs.
+#![tactic(auto)]
+
+pub mod command;
+pub mod flag;
+pub mod line;
+pub mod lines;
+pub mod options;
+pub mod printing;
+pub mod program;
+pub mod search;
+pub mod searcher;

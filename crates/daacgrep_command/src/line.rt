@@ -1,0 +1,15 @@
+//! A line of a text.
+
+ghost use Rattle.std.specs.Prelude.{◌<◌, ◌+◌, ◌^◌, length};
+
+/// A line of a text.
+#[derive(Clone, Copy, Debug, PartialEq, Eq)]
+pub struct Line<'a> {
+    /// Its number, where the first line has the number 1.
+    pub number: usize,
+    /// The place of its first byte in the text.
+    pub start: usize,
+    /// Its bytes, without the line feed behind them.
+    pub bytes: &'a [u8],
+    ghost within: { start + length bytes.now < 2 ^ 64 },
+}

@@ -1,0 +1,63 @@
+//! What the program has around its command: its words, its files and its streams.
+
+use crate::command::command;
+use daacfind_command::inputs::Inputs;
+use daacfind_command::sink::WriterSink;
+use std::alloc::Global;
+use std::io::{self, BufWriter, Read};
+use std::process::ExitCode;
+use std::rt::{Env, Files};
+use std::{env, fs};
+
+/// The files of the system, and standard input by the name `-`.
+#[derive(Drop)]
+pub struct SystemInputs<'a, R: Files + Input + AllocGlobal> {
+    rt: &'a R,
+}
+
+impl<R: Files + Input + AllocGlobal> Inputs for SystemInputs<'_, R> {
+    ghost use Rattle.std.specs.Prelude.{None};
+
+    // No contract can say what a file has.
+    ghost given = { λ _. None };
+
+    fn read(&mut self, name: &str) -> Option<Vec<u8>> {
+        if name == "-" {
+            let mut bytes = Vec::new(self.rt.alloc());
+            self.rt.reader().read_to_end(&mut bytes).ok()?;
+            Some(bytes)
+        } else {
+            fs::read(self.rt, name).ok()
+        }
+    }
+}
+
+/// Runs the command with the program's own words, files and streams.
+pub fn run_program(rt: &HostRuntime) -> ExitCode {
+    match status(rt) {
+        Ok(status) => ExitCode::from(status),
+        Err(error) => {
+            let _ = eprintln!(rt; "daacgrep: {error}");
+            ExitCode::from(2)
+        }
+    }
+}
+
+fn status(rt: &HostRuntime) -> io::Result<u8> {
+    let mut given = Vec::new(rt.alloc());
+    for word in env::args(rt)?.skip(1) {
+        given.push(word)?;
+    }
+    let mut words = Vec::with_capacity(rt.alloc(), given.len())?;
+    for word in &given {
+        words.push(word.as_str())?;
+    }
+    let out = BufWriter::new(rt.alloc(), io::writer(rt))?;
+    Ok(command(
+        rt.alloc(),
+        &words,
+        &mut SystemInputs { rt },
+        &mut WriterSink::new(out),
+        &mut WriterSink::new(rt.stderr()),
+    ))
+}

@@ -1,0 +1,222 @@
+//! The search of one file.
+
+ghost use Rattle.std.specs.Prelude.{◌≡◌, ◌≤◌, [], ◌∷◌, ◌++◌, if◌then◌else◌, IfOk, decimal, length};
+ghost use Rattle.daacfind_command.specs.Runs.{IsWritten};
+ghost use Rattle.daachorse_bytewise.specs.Automata.{dictionary_of};
+ghost use Rattle.daacgrep_command.specs.Lines.{lines_of, seen};
+ghost use Rattle.daacgrep_command.specs.Fields.{name_field};
+ghost use Rattle.daacgrep_command.specs.Printed.{file_text, has_selected, is_selected, line_text, lines_text, match_text, matches_text, part_of_line, selected_count};
+
+use crate::line::Line;
+use crate::lines::Lines;
+use crate::printing::{Labels, write_count, write_entry, write_marked};
+use crate::searcher::Searcher;
+use daacfind_command::sink::{Sink, SinkError};
+use daachorse::Match;
+use std::alloc::Allocator;
+
+/// What is written of a file.
+#[derive(Clone, Copy, Debug, PartialEq, Eq)]
+pub enum Report {
+    /// Its selected lines.
+    Lines,
+    /// The nonempty matches in these.
+    Matches,
+    /// The number of these.
+    Count,
+    /// Its name, if a line is selected.
+    Name,
+    /// Nothing.
+    Nothing,
+}
+
+/// How files are searched.
+#[derive(Clone, Copy, Debug, PartialEq, Eq)]
+pub struct Task {
+    /// What is written.
+    pub report: Report,
+    /// Whether the lines without a match are selected, and not those with one.
+    pub inverts: bool,
+    /// What stands in front of a line, or with [`Report::Matches`] of a match.
+    pub labels: Labels,
+}
+
+/// Writes what the task asks of a file, and returns whether a line is selected.
+pub fn search_file<S: Sink, A: Allocator>(
+    searcher: &Searcher<A>,
+    task: Task,
+    name: &str,
+    text: &[u8],
+    out: &mut S,
+) -> Result<bool, SinkError>
+    ensures written { IsWritten (S.taken out.old) (S.taken out.new) (S.failures out.old) (S.failures out.new) result
+        (file_text (dictionary_of searcher.now) searcher.now.folds task name.now text.now) }
+    ensures selected { IfOk result (λ b. b ≡ has_selected (dictionary_of searcher.now) searcher.now.folds task.inverts (lines_of text.now)) }
+{
+    match task.report {
+        Report::Lines | Report::Matches => write_selected(searcher, task, name, text, out),
+        Report::Count => write_selected_count(searcher, task, name, text, out),
+        Report::Name => write_selected_name(searcher, task.inverts, name, text, out),
+        Report::Nothing => Ok(any_selected(searcher, task.inverts, text)),
+    }
+}
+
+fn write_selected_count<S: Sink, A: Allocator>(
+    searcher: &Searcher<A>,
+    task: Task,
+    name: &str,
+    text: &[u8],
+    out: &mut S,
+) -> Result<bool, SinkError>
+    ensures written { IsWritten (S.taken out.old) (S.taken out.new) (S.failures out.old) (S.failures out.new) result
+        (name_field task.labels.names name.now ++ (decimal (selected_count (dictionary_of searcher.now) searcher.now.folds task.inverts (lines_of text.now)) ++ 10 ∷ [])) }
+    ensures selected { IfOk result (λ b. b ≡ has_selected (dictionary_of searcher.now) searcher.now.folds task.inverts (lines_of text.now)) }
+{
+    let count = count_selected(searcher, task.inverts, text);
+    write_count(task.labels.names, name, count, out)?;
+    Ok(count > 0)
+}
+
+fn write_selected_name<S: Sink, A: Allocator>(
+    searcher: &Searcher<A>,
+    inverts: bool,
+    name: &str,
+    text: &[u8],
+    out: &mut S,
+) -> Result<bool, SinkError>
+    ensures written { IsWritten (S.taken out.old) (S.taken out.new) (S.failures out.old) (S.failures out.new) result
+        (if has_selected (dictionary_of searcher.now) searcher.now.folds inverts (lines_of text.now) then name.now ++ 10 ∷ [] else []) }
+    ensures selected { IfOk result (λ b. b ≡ has_selected (dictionary_of searcher.now) searcher.now.folds inverts (lines_of text.now)) }
+{
+    if !any_selected(searcher, inverts, text) {
+        return Ok(false);
+    }
+    write_marked(name.as_bytes(), b'\n', out)?;
+    Ok(true)
+}
+
+// How many lines are selected.
+fn count_selected<A: Allocator>(searcher: &Searcher<A>, inverts: bool, text: &[u8]) -> usize
+    ensures { result ≡ selected_count (dictionary_of searcher.now) searcher.now.folds inverts (lines_of text.now) }
+{
+    let mut count = 0usize;
+    for line in Lines::new(text) {
+        if searcher.selects(inverts, line.bytes) {
+            count += 1;
+        }
+    }
+    count
+}
+
+// Whether a line is selected.
+fn any_selected<A: Allocator>(searcher: &Searcher<A>, inverts: bool, text: &[u8]) -> bool
+    ensures { result ≡ has_selected (dictionary_of searcher.now) searcher.now.folds inverts (lines_of text.now) }
+{
+    for line in Lines::new(text) {
+        if searcher.selects(inverts, line.bytes) {
+            return true;
+        }
+    }
+    false
+}
+
+// Writes each selected line, or its matches, and returns whether there is one.
+fn write_selected<S: Sink, A: Allocator>(
+    searcher: &Searcher<A>,
+    task: Task,
+    name: &str,
+    text: &[u8],
+    out: &mut S,
+) -> Result<bool, SinkError>
+    ensures written { IsWritten (S.taken out.old) (S.taken out.new) (S.failures out.old) (S.failures out.new) result
+        (lines_text (dictionary_of searcher.now) searcher.now.folds task name.now (lines_of text.now)) }
+    ensures selected { IfOk result (λ b. b ≡ has_selected (dictionary_of searcher.now) searcher.now.folds task.inverts (lines_of text.now)) }
+{
+    let mut any = false;
+    for line in Lines::new(text) {
+        let is_selected = write_if_selected(searcher, task, name, line, out)?;
+        any = any | is_selected;
+    }
+    Ok(any)
+}
+
+// Writes a line, if it is selected, and returns whether it is.
+fn write_if_selected<S: Sink, A: Allocator>(
+    searcher: &Searcher<A>,
+    task: Task,
+    name: &str,
+    line: Line,
+    out: &mut S,
+) -> Result<bool, SinkError>
+    ensures written { IsWritten (S.taken out.old) (S.taken out.new) (S.failures out.old) (S.failures out.new) result
+        (part_of_line (dictionary_of searcher.now) searcher.now.folds task name.now (seen line.entry)) }
+    ensures selected { IfOk result (λ b. b ≡ is_selected (dictionary_of searcher.now) searcher.now.folds task.inverts line.entry.bytes.now) }
+{
+    if !searcher.selects(task.inverts, line.bytes) {
+        return Ok(false);
+    }
+    write_line(searcher, task, name, line, out)?;
+    Ok(true)
+}
+
+fn write_line<S: Sink, A: Allocator>(
+    searcher: &Searcher<A>,
+    task: Task,
+    name: &str,
+    line: Line,
+    out: &mut S,
+) -> Result<(), SinkError>
+    ensures { IsWritten (S.taken out.old) (S.taken out.new) (S.failures out.old) (S.failures out.new) result
+        (line_text (dictionary_of searcher.now) searcher.now.folds task.labels name.now task.report (seen line.entry)) }
+{
+    match task.report {
+        Report::Lines => {
+            write_entry(task.labels, name, line.number, line.start, line.bytes, out)
+        }
+        Report::Matches => write_matches(searcher, task.labels, name, line, out),
+        Report::Count | Report::Name | Report::Nothing => Ok(()),
+    }
+}
+
+fn write_matches<S: Sink, A: Allocator>(
+    searcher: &Searcher<A>,
+    labels: Labels,
+    name: &str,
+    line: Line,
+    out: &mut S,
+) -> Result<(), SinkError>
+    ensures { IsWritten (S.taken out.old) (S.taken out.new) (S.failures out.old) (S.failures out.new) result
+        (matches_text (dictionary_of searcher.now) searcher.now.folds labels name.now (seen line.entry)) }
+{
+    for found in searcher.matches(line.bytes) {
+        write_match(labels, name, line, found, out)?;
+    }
+    Ok(())
+}
+
+// Writes a match, unless it is empty.
+fn write_match<S: Sink>(
+    labels: Labels,
+    name: &str,
+    line: Line,
+    found: Match<u32>,
+    out: &mut S,
+) -> Result<(), SinkError>
+    requires ordered { found.start ≤ found.end }
+    requires within { found.end ≤ length line.bytes.now }
+    ensures { IsWritten (S.taken out.old) (S.taken out.new) (S.failures out.old) (S.failures out.new) result
+        (match_text labels name.now (seen line.entry) found) }
+{
+    if found.start == found.end {
+        return Ok(());
+    }
+    let text = &line.bytes[found.start..found.end];
+    write_entry(
+        labels,
+        name,
+        line.number,
+        line.start + found.start,
+        text,
+        out,
+    )
+}

@@ -1,14 +1,16 @@
 /* Automata over bytes: many patterns searched at once.
  *
  * A handle begins as DAACHORSE_EMPTY. daachorse_build or daachorse_read fills it, the searches use
- * it, and daachorse_free empties it. Each call but daachorse_free returns an enum daachorse_answer:
- * DAACHORSE_DONE, or why it was refused. No call stops the process.
+ * it, and daachorse_free empties it. Each call but daachorse_free and daachorse_version returns an
+ * enum daachorse_answer: DAACHORSE_DONE, or why it was refused. No call stops the process.
  *
  * The caller must keep to this:
  *
- * - A handle is not copied, and its field is neither read nor written.
- * - No pointer is null, even if its length is 0, and each length is that of what its pointer points
- *   to. Memory that a call writes to is initialised, and overlaps nothing else passed to the call.
+ * - The field of a handle is neither read nor written. A handle may be copied, if from then on only
+ *   one of the two is used, and freed.
+ * - No pointer is null, but one with a length of 0 and that of daachorse_free. Each length is that
+ *   of what its pointer points to. What a call writes to overlaps nothing else passed to the call,
+ *   and needs no value before.
  * - A handle is used by one call at a time. Calls with different handles may run at once, also if
  *   the handles share an automaton (daachorse_share): a thread each searches with a handle of its
  *   own. A handle may move to another thread, if a lock, a join or the like orders its calls after
@@ -17,8 +19,7 @@
  *   aligns a block to each power of two up to 16 that divides its size. No call is made in a signal
  *   handler, or in the forked child of a process with threads.
  *
- * All offsets and lengths are in bytes, unless stated otherwise.
- */
+ * All offsets and lengths are in bytes, unless stated otherwise. */
 #ifndef DAACHORSE_H
 #define DAACHORSE_H
 
@@ -26,15 +27,17 @@
 #include <stddef.h>
 #include <stdint.h>
 
-/* The version of the Rust crate whose searches these are. */
+/* The version of the Rust crate whose searches these are, as text and as daachorse_version returns
+ * it. */
 #define DAACHORSE_VERSION "5.1.0"
+#define DAACHORSE_VERSION_NUMBER 50100
 
 #ifdef __cplusplus
 extern "C" {
 #endif
 
-/* Nothing, or an automaton, alone or shared with other handles. daachorse_free empties it, and frees
- * an automaton that no other handle has. */
+/* Nothing, or an automaton, alone or shared with other handles. daachorse_free empties it, and
+ * frees an automaton that no other handle has. */
 typedef struct daachorse {
     void *opaque;
 } daachorse;
@@ -71,8 +74,25 @@ enum daachorse_answer {
     DAACHORSE_INVALID_AUTOMATON = 10, /* the bytes do not begin with an automaton */
     DAACHORSE_NO_ROOM = 11,          /* the output is longer than the room for it */
     DAACHORSE_NO_STREAM = 12,        /* no stream was begun */
-    DAACHORSE_STREAM_TOO_LONG = 13   /* an offset or the number of matches would pass size_t */
+    DAACHORSE_STREAM_TOO_LONG = 13,  /* an offset or the number of matches would pass size_t */
+    DAACHORSE_UNKNOWN_OPTION = 14    /* an option is neither 0 nor 1, or a spare one is not 0 */
 };
+
+/* The options of a build. One that is all 0 asks for the standard kind, with a prefilter, and
+ * regards case. */
+typedef struct daachorse_options {
+    uint32_t kind;                   /* an enum daachorse_kind */
+    uint32_t no_prefilter;           /* 1: searches do not skip places where no pattern begins */
+    uint32_t ascii_case_insensitive; /* 1: A to Z are read as a to z */
+    uint32_t spare[5];               /* 0 */
+} daachorse_options;
+
+/* How much an automaton holds. */
+typedef struct daachorse_counts {
+    size_t patterns; /* where equal ones count each */
+    size_t states;   /* one for each prefix of a pattern, the empty one included */
+    size_t size;     /* the length of what daachorse_write writes */
+} daachorse_counts;
 
 /* What an answer means, as text. */
 static inline const char *daachorse_answer_text(uint32_t answer) {
@@ -91,6 +111,7 @@ static inline const char *daachorse_answer_text(uint32_t answer) {
     case DAACHORSE_NO_ROOM: return "the output is longer than the room for it";
     case DAACHORSE_NO_STREAM: return "no stream was begun";
     case DAACHORSE_STREAM_TOO_LONG: return "an offset or the number of matches would pass 64 bits";
+    case DAACHORSE_UNKNOWN_OPTION: return "an option is neither 0 nor 1, or a spare one is not 0";
     default: return "no answer of this library";
     }
 }
@@ -109,23 +130,41 @@ uint32_t daachorse_build(daachorse *handle, uint32_t kind, bool use_prefilter, b
         const uint8_t *bytes, size_t bytes_len, const size_t *ends, size_t ends_len, const uint32_t *values,
         size_t values_len);
 
+/* Does what daachorse_build does, with the options in a struct. It may return
+ * DAACHORSE_UNKNOWN_OPTION besides, with the handle unchanged. */
+uint32_t daachorse_build_with(daachorse *handle, const daachorse_options *options, const uint8_t *bytes,
+        size_t bytes_len, const size_t *ends, size_t ends_len, const uint32_t *values, size_t values_len);
+
 /* Empties the handle, and frees the automaton if no other handle has it. */
 void daachorse_free(daachorse *handle);
+
+/* Returns 10000 times the major version, 100 times the minor one and the patch of the library. */
+uint32_t daachorse_version(void);
+
+/* Writes the kind of the automaton, and whether it ignores ASCII case. It allocates nothing.
+ * Returns DAACHORSE_DONE or, with both unchanged, DAACHORSE_EMPTY_HANDLE. */
+uint32_t daachorse_kind(daachorse *handle, uint32_t *kind, bool *ascii_case_insensitive);
+
+/* Counts what the automaton holds. It walks over all patterns, as daachorse_list does, and writes
+ * the automaton to memory that it frees. Returns DAACHORSE_DONE or, with counts unchanged,
+ * DAACHORSE_EMPTY_HANDLE or DAACHORSE_OUT_OF_MEMORY. */
+uint32_t daachorse_count(daachorse *handle, daachorse_counts *counts);
 
 /* Fills other with the automaton of the handle, and frees what it held. Nothing is copied: a few
  * words are allocated. Each handle has a stream of its own, and other has none at first. Returns
  * DAACHORSE_DONE or, with other unchanged, DAACHORSE_EMPTY_HANDLE or DAACHORSE_OUT_OF_MEMORY. */
 uint32_t daachorse_share(daachorse *handle, daachorse *other);
 
-/* Fills other with a copy of the automaton that has rows of the states near its root, if there is room
- * for them, and frees what it held. Searches of a whole haystack find the same, faster if patterns
- * are few and short. The rows take at most 319,484 bytes, and 2 for each element of the automaton.
- * Returns DAACHORSE_DONE or, with other unchanged, DAACHORSE_EMPTY_HANDLE or
- * DAACHORSE_OUT_OF_MEMORY. */
+/* Fills other with a copy of the automaton that has rows of the states near its root, and frees
+ * what it held. Searches of a whole haystack find the same, faster if patterns are few and short.
+ * The rows take at most 319,484 bytes, and 2 for each element of the automaton. If more than 485
+ * texts of at most two bytes begin patterns, the copy has none. Returns DAACHORSE_DONE or, with
+ * other unchanged, DAACHORSE_EMPTY_HANDLE or DAACHORSE_OUT_OF_MEMORY. */
 uint32_t daachorse_accelerate(daachorse *handle, daachorse *other);
 
 /* The searches write their first matches to out, as many as there is room for, and their number to
- * written. If that is out_len, there may be more: call again with more room. They allocate nothing.
+ * written. If that is out_len, there may be more: call again with more room. They allocate nothing,
+ * and take time linear in the haystack and the matches, but for daachorse_leftmost_find.
  * They return DAACHORSE_DONE or, with out unchanged and 0 in written, DAACHORSE_EMPTY_HANDLE or
  * DAACHORSE_WRONG_KIND. */
 
@@ -143,9 +182,17 @@ uint32_t daachorse_find_overlapping_no_suffix(daachorse *handle, const uint8_t *
         daachorse_match *out, size_t out_len, size_t *written);
 
 /* Matches that do not overlap, each starting as early as possible, for automata of the leftmost
- * kinds. */
+ * kinds. It may read as many bytes behind each match as the longest pattern has, so it takes at
+ * most the time of the matches times that length: patterns of strangers may make it slow. */
 uint32_t daachorse_leftmost_find(daachorse *handle, const uint8_t *haystack, size_t haystack_len,
         daachorse_match *out, size_t out_len, size_t *written);
+
+/* The patterns that are the whole text, in order of registration, and those that begin it, the
+ * shortest first. Both serve automata of every kind. */
+uint32_t daachorse_get(daachorse *handle, const uint8_t *text, size_t text_len, daachorse_match *out,
+        size_t out_len, size_t *written);
+uint32_t daachorse_common_prefixes(daachorse *handle, const uint8_t *text, size_t text_len, daachorse_match *out,
+        size_t out_len, size_t *written);
 
 /* Writes to found whether some pattern occurs in the haystack. It serves automata of every kind,
  * and allocates nothing. Returns DAACHORSE_DONE or, with false in found, DAACHORSE_EMPTY_HANDLE. */
@@ -162,8 +209,8 @@ uint32_t daachorse_is_match(daachorse *handle, const uint8_t *haystack, size_t h
  * if the automaton is not standard. */
 uint32_t daachorse_begin(daachorse *handle, bool overlapping);
 
-/* Fills other with the automaton of the handle, as daachorse_share does, and begins a stream there. If
- * it is refused, other is unchanged or empty. */
+/* Fills other with the automaton of the handle, as daachorse_share does, and begins a stream there.
+ * If it is refused, other is unchanged or empty. */
 static inline uint32_t daachorse_stream(daachorse *handle, bool overlapping, daachorse *other) {
     uint32_t answer = daachorse_share(handle, other);
     if (answer == DAACHORSE_DONE && (answer = daachorse_begin(other, overlapping)) != DAACHORSE_DONE)
@@ -171,12 +218,13 @@ static inline uint32_t daachorse_stream(daachorse *handle, bool overlapping, daa
     return answer;
 }
 
-/* Feeds bytes to the stream, as few as one, and writes its next matches to out, the number of
- * bytes consumed to taken, and that of matches to written. If written is less than out_len, all
- * bytes were consumed and every match so far was reported. If it is out_len, call again with the
- * bytes after the first taken, even if there are none: no match is lost. It allocates nothing.
- * Returns DAACHORSE_DONE or, with the stream and out unchanged and 0 in taken and written,
- * DAACHORSE_EMPTY_HANDLE, DAACHORSE_NO_STREAM or DAACHORSE_STREAM_TOO_LONG. */
+/* Feeds bytes to the stream, as few as one, and writes its next matches to out, the number of bytes
+ * consumed to taken, and that of matches to written. If written is less than out_len, all bytes
+ * were consumed and every match so far was reported. If it is out_len, call again with the bytes
+ * after the first taken, even if there are none: no match is lost. It allocates nothing. A call
+ * passes over the matches at one place that earlier ones reported, so that of many equal patterns a
+ * small out takes the square. Returns DAACHORSE_DONE or, with the stream and out unchanged and 0 in
+ * taken and written, DAACHORSE_EMPTY_HANDLE, DAACHORSE_NO_STREAM or DAACHORSE_STREAM_TOO_LONG. */
 uint32_t daachorse_consume(daachorse *handle, const uint8_t *bytes, size_t bytes_len, daachorse_match *out,
         size_t out_len, size_t *taken, size_t *written);
 
@@ -190,8 +238,10 @@ uint32_t daachorse_write(daachorse *handle, uint8_t *out, size_t out_len, size_t
  * daachorse_build takes: in byte order, equal ones in order of registration. The number of their
  * bytes is written to size, and that of patterns to count. An automaton of the kind
  * DAACHORSE_LEFTMOST_FIRST holds no pattern that extends one registered before it, and one that
- * ignores ASCII case holds a to z in place of A to Z. Memory for a walk over the automaton and a
- * copy of the patterns is allocated, and freed before the call returns.
+ * ignores ASCII case holds a to z in place of A to Z. Memory for a walk over the automaton is
+ * allocated, with a copy of the patterns for which there is room, and freed before the call
+ * returns. The time is linear in the bytes of all patterns: an automaton of a stranger may list
+ * many for each of its own bytes.
  *
  * Returns DAACHORSE_DONE or, with bytes, ends and values unchanged, DAACHORSE_EMPTY_HANDLE or
  * DAACHORSE_OUT_OF_MEMORY, with 0 in size and count, or DAACHORSE_NO_ROOM, with the room needed:
@@ -203,6 +253,110 @@ uint32_t daachorse_list(daachorse *handle, uint8_t *bytes, size_t bytes_len, siz
  * automaton's length to taken. The bytes may be untrusted. Returns DAACHORSE_DONE or, with the
  * handle unchanged and 0 in taken, DAACHORSE_OUT_OF_MEMORY or DAACHORSE_INVALID_AUTOMATON. */
 uint32_t daachorse_read(daachorse *handle, const uint8_t *bytes, size_t bytes_len, size_t *taken);
+
+/* The calls above as C uses them: a null pointer with a length of 0 becomes one that is not null,
+ * and a number that the library writes has a value before. */
+
+static inline const void *daachorse_some(const void *at) {
+    static const size_t none = 0;
+    return at != NULL ? at : &none;
+}
+
+static inline void *daachorse_room(void *at) {
+    static size_t none = 0;
+    return at != NULL ? at : &none;
+}
+
+static inline uint32_t daachorse_build_in_c(daachorse *handle, uint32_t kind, bool use_prefilter,
+        bool ascii_case_insensitive, const uint8_t *bytes, size_t bytes_len, const size_t *ends, size_t ends_len,
+        const uint32_t *values, size_t values_len) {
+    return daachorse_build(handle, kind, use_prefilter, ascii_case_insensitive, (const uint8_t *)daachorse_some(bytes),
+            bytes_len, (const size_t *)daachorse_some(ends), ends_len, (const uint32_t *)daachorse_some(values),
+            values_len);
+}
+#define daachorse_build daachorse_build_in_c
+
+static inline uint32_t daachorse_build_with_in_c(daachorse *handle, const daachorse_options *options,
+        const uint8_t *bytes, size_t bytes_len, const size_t *ends, size_t ends_len, const uint32_t *values,
+        size_t values_len) {
+    return daachorse_build_with(handle, options, (const uint8_t *)daachorse_some(bytes), bytes_len,
+            (const size_t *)daachorse_some(ends), ends_len, (const uint32_t *)daachorse_some(values), values_len);
+}
+#define daachorse_build_with daachorse_build_with_in_c
+
+static inline void daachorse_free_in_c(daachorse *handle) {
+    if (handle != NULL)
+        daachorse_free(handle);
+}
+#define daachorse_free daachorse_free_in_c
+
+static inline uint32_t daachorse_kind_in_c(daachorse *handle, uint32_t *kind, bool *ascii_case_insensitive) {
+    uint32_t its_kind = 0;
+    bool ignores_case = false;
+    uint32_t answer = daachorse_kind(handle, &its_kind, &ignores_case);
+    if (answer == DAACHORSE_DONE) {
+        *kind = its_kind;
+        *ascii_case_insensitive = ignores_case;
+    }
+    return answer;
+}
+#define daachorse_kind daachorse_kind_in_c
+
+#define DAACHORSE_SEARCH_IN_C(search)                                                                                \
+    static inline uint32_t search##_in_c(daachorse *handle, const uint8_t *haystack, size_t haystack_len,             \
+            daachorse_match *out, size_t out_len, size_t *written) {                                                  \
+        *written = 0;                                                                                                 \
+        return search(handle, (const uint8_t *)daachorse_some(haystack), haystack_len,                                \
+                (daachorse_match *)daachorse_room(out), out_len, written);                                            \
+    }
+DAACHORSE_SEARCH_IN_C(daachorse_find)
+DAACHORSE_SEARCH_IN_C(daachorse_find_overlapping)
+DAACHORSE_SEARCH_IN_C(daachorse_find_overlapping_no_suffix)
+DAACHORSE_SEARCH_IN_C(daachorse_leftmost_find)
+DAACHORSE_SEARCH_IN_C(daachorse_get)
+DAACHORSE_SEARCH_IN_C(daachorse_common_prefixes)
+#undef DAACHORSE_SEARCH_IN_C
+#define daachorse_find daachorse_find_in_c
+#define daachorse_find_overlapping daachorse_find_overlapping_in_c
+#define daachorse_find_overlapping_no_suffix daachorse_find_overlapping_no_suffix_in_c
+#define daachorse_leftmost_find daachorse_leftmost_find_in_c
+#define daachorse_get daachorse_get_in_c
+#define daachorse_common_prefixes daachorse_common_prefixes_in_c
+
+static inline uint32_t daachorse_is_match_in_c(daachorse *handle, const uint8_t *haystack, size_t haystack_len,
+        bool *found) {
+    *found = false;
+    return daachorse_is_match(handle, (const uint8_t *)daachorse_some(haystack), haystack_len, found);
+}
+#define daachorse_is_match daachorse_is_match_in_c
+
+static inline uint32_t daachorse_consume_in_c(daachorse *handle, const uint8_t *bytes, size_t bytes_len,
+        daachorse_match *out, size_t out_len, size_t *taken, size_t *written) {
+    *taken = *written = 0;
+    return daachorse_consume(handle, (const uint8_t *)daachorse_some(bytes), bytes_len,
+            (daachorse_match *)daachorse_room(out), out_len, taken, written);
+}
+#define daachorse_consume daachorse_consume_in_c
+
+static inline uint32_t daachorse_write_in_c(daachorse *handle, uint8_t *out, size_t out_len, size_t *size) {
+    *size = 0;
+    return daachorse_write(handle, (uint8_t *)daachorse_room(out), out_len, size);
+}
+#define daachorse_write daachorse_write_in_c
+
+static inline uint32_t daachorse_list_in_c(daachorse *handle, uint8_t *bytes, size_t bytes_len, size_t *ends,
+        size_t ends_len, uint32_t *values, size_t values_len, size_t *size, size_t *count) {
+    *size = *count = 0;
+    return daachorse_list(handle, (uint8_t *)daachorse_room(bytes), bytes_len, (size_t *)daachorse_room(ends), ends_len,
+            (uint32_t *)daachorse_room(values), values_len, size, count);
+}
+#define daachorse_list daachorse_list_in_c
+
+static inline uint32_t daachorse_read_in_c(daachorse *handle, const uint8_t *bytes, size_t bytes_len, size_t *taken) {
+    *taken = 0;
+    return daachorse_read(handle, (const uint8_t *)daachorse_some(bytes), bytes_len, taken);
+}
+#define daachorse_read daachorse_read_in_c
 
 #ifdef __cplusplus
 }

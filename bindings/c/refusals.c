@@ -1,5 +1,6 @@
-/* Refuses each allocation of a build, a write, a listing, a share and a read in turn. The call must return
- * DAACHORSE_OUT_OF_MEMORY and leak nothing. Link with -Wl,--wrap=malloc,--wrap=realloc. */
+/* Refuses each allocation of each call that allocates in turn. The call must return
+ * DAACHORSE_OUT_OF_MEMORY, change nothing and leak nothing. Link with
+ * -Wl,--wrap=malloc,--wrap=realloc. */
 #include "daachorse.h"
 
 #include <stdio.h>
@@ -63,6 +64,18 @@ static uint32_t share(daachorse *handle) {
     return daachorse_share(&full, handle);
 }
 
+static uint32_t accelerate(daachorse *handle) {
+    return daachorse_accelerate(&full, handle);
+}
+
+static uint32_t count(daachorse *handle) {
+    daachorse_counts counts = {7, 7, 7};
+    uint32_t answer = daachorse_count(handle, &counts);
+    bool done = answer == DAACHORSE_DONE;
+    need(counts.patterns == (done ? 4 : 7) && counts.states == (done ? 9 : 7), "the counts");
+    return answer;
+}
+
 static uint32_t list_patterns(daachorse *handle) {
     uint8_t room[10] = {7};
     size_t room_for_ends[4] = {7}, size = 7, count = 7;
@@ -96,10 +109,13 @@ int main(void) {
     refuse_each("build for any case", build_for_any_case, &handle);
     refuse_each("write", write_form, &handle);
     refuse_each("list", list_patterns, &handle);
+    refuse_each("count", count, &handle);
     need(build_for_any_case(&full) == DAACHORSE_DONE, "build");
     refuse_each("share", share, &again);
-    daachorse_free(&full);
     need(daachorse_is_match(&again, (const uint8_t *)"xCdx", 4, &found) == DAACHORSE_DONE && found, "a shared one");
+    refuse_each("accelerate", accelerate, &again);
+    daachorse_free(&full);
+    need(daachorse_is_match(&again, (const uint8_t *)"xCdx", 4, &found) == DAACHORSE_DONE && found, "one with rows");
     refuse_each("read", read_form, &again);
     need(daachorse_is_match(&again, (const uint8_t *)"xCdx", 4, &found) == DAACHORSE_DONE && found, "is_match");
     daachorse_free(&handle);

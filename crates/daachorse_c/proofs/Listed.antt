@@ -1,5 +1,5 @@
 -- A pattern behind the others.
-use Rattle.std.proofs.Common.{◌≡◌, ℕ, ◌-◌, ◌≤◌, List, [], ◌∷◌, ◌++◌, length, drop, take, slice_range, refl, ap, ◌∙◌, length-append, arith}
+use Rattle.std.proofs.Common.{◌≡◌, ℕ, ◌+◌, ◌-◌, ◌≤◌, List, [], ◌∷◌, ◌++◌, length, drop, take, slice_range, refl, ap, ◌∙◌, length-append, arith}
 use Rattle.std.proofs.lemmas.List.{drop-append-le, drop_at, length-drop, length_push, take-append-le, take_all}
 use Rattle.daachorse_c.specs.Listing.{Arrays, AreWhole, entries, last_pattern_end, one_more}
 use Rattle.daachorse_c.specs.Patterns.{AreEnds, registrations}
@@ -48,3 +48,10 @@ module _ (p : Arrays) (w : List ℕ) (v : ℕ) (are : AreWhole p) where
     };
     whole = last_of_more 0 p.ends (length (p.bytes ++ w));
   }
+
+module _ (p : Arrays) (w : List ℕ) (v : ℕ) where
+  pub one-wider : length (one_more p w v).bytes ≡ length p.bytes + length w
+  one-wider = length-append p.bytes w
+
+  pub one-longer : length (one_more p w v).ends ≡ length p.ends + 1
+  one-longer = length_push p.ends (length (p.bytes ++ w))

@@ -1,7 +1,9 @@
 pub mod Building
+pub mod Counts
 pub mod Handle
 pub mod Held
 pub mod Listing
+pub mod Options
 pub mod Patterns
 pub mod Refusals
 pub mod Searches

@@ -1,8 +1,9 @@
 -- What a listing for C promises, and why it is refused: the patterns of an automaton, in the form in which a build takes them.
-use Rattle.std.specs.Prelude.{◌≡◌, ◌⊎◌, ℕ, ◌<◌, List, [], ◌∷◌, ◌++◌, length, Option, IsSomeAnd}
+use Rattle.std.specs.Prelude.{◌≡◌, ◌⊎◌, ℕ, ◌<◌, ◌≤◌, List, [], ◌∷◌, ◌++◌, length, Option, IsSomeAnd}
 use Rattle.daachorse_model.specs.Prefixes.{IsListing}
 use Rattle.daachorse_bytewise.specs.Automata.{Automaton as Searches, dictionary_of}
 use Rattle.daachorse_c.specs.declared.listing.Listing.{Listing}
+use Rattle.daachorse_c.specs.declared.listing.Room.{Room}
 use Rattle.daachorse_c.specs.declared.refusal.Refusal.{Refusal}
 use Rattle.daachorse_c.specs.declared.refusal.Refusal.TheVariants.{NoRoom, OutOfMemory}
 use Rattle.daachorse_c.specs.Held.{Held}
@@ -50,6 +51,17 @@ pub record AreListedIn (a : Searches ℕ) (p : Arrays) (size count : ℕ) : Type
   pub listed : ArePatternsOf a p
   pub bytes : size ≡ length p.bytes
   pub patterns : count ≡ length p.ends
+
+-- there is room for all patterns
+pub record Fits (l : Listing) (room : Room) : Type 0 where
+  pub bytes : l.size ≤ room.bytes
+  pub patterns : l.count ≤ room.patterns
+
+-- the automaton's patterns were counted, and all of them are kept where there is room
+pub record IsListingWithin (a : Searches ℕ) (room : Room) (l : Listing) : Type 0 where
+  pub listed : Arrays
+  pub counted : AreListedIn a listed l.size l.count
+  pub kept : Fits l room → arrays_of l ≡ listed
 
 -- they stand at the beginning of the arrays, and behind them what was there
 pub record StandInFront (p old new : Arrays) : Type 0 where

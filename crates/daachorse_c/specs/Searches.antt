@@ -1,19 +1,20 @@
 -- What each search finds, for which automata it is, and why it is refused.
-use Rattle.std.specs.Prelude.{◌≡◌, ◌≢◌, ◌⊎◌, ℕ, List, Option, IsNone, IsSomeAnd}
+use Rattle.std.specs.Prelude.{◌≡◌, ◌≢◌, ◌⊎◌, ℕ, ⊤, List, Option, IsNone, IsSomeAnd, length}
 use Rattle.daachorse_model.specs.declared.Match.{Match}
 use Rattle.daachorse_model.specs.declared.MatchKind.{MatchKind}
 use Rattle.daachorse_model.specs.declared.MatchKind.TheVariants.{Standard}
 use Rattle.daachorse_model.specs.Dictionary.{Dictionary}
 use Rattle.daachorse_model.specs.Folding.{as_read}
 use Rattle.daachorse_model.specs.Leftmost.{leftmost}
-use Rattle.daachorse_model.specs.Matches.{no_suffix, overlapping, standard}
+use Rattle.daachorse_model.specs.Matches.{matches_of, no_suffix, overlapping, standard}
 use Rattle.daachorse_model.specs.Units.{byte_width}
+use Rattle.daachorse_array.specs.Lookups.{common_prefixes}
 use Rattle.daachorse_bytewise.specs.Automata.{dictionary_of, kind_of}
 use Rattle.daachorse_c.specs.declared.found.CMatch.{CMatch}
 use Rattle.daachorse_c.specs.declared.refusal.Refusal.{Refusal}
 use Rattle.daachorse_c.specs.declared.refusal.Refusal.TheVariants.{EmptyHandle, OutOfMemory, WrongKind}
 use Rattle.daachorse_c.specs.declared.search.SearchKind.{SearchKind}
-use Rattle.daachorse_c.specs.declared.search.SearchKind.TheVariants.{Find, Overlapping, NoSuffix, Leftmost}
+use Rattle.daachorse_c.specs.declared.search.SearchKind.TheVariants.{Find, Overlapping, NoSuffix, Leftmost, Whole, Prefixes}
 use Rattle.daachorse_c.specs.Held.{Held}
 use Rattle.daachorse_c.specs.Refusals.{IsDoneOr}
 use Rattle.daachorse_c.specs.Writes.{Writes}
@@ -24,12 +25,16 @@ found_by Find K haystack = standard byte_width K haystack
 found_by Overlapping K haystack = overlapping byte_width K haystack
 found_by NoSuffix K haystack = no_suffix byte_width K haystack
 found_by Leftmost K haystack = leftmost byte_width K haystack
+found_by Whole K haystack = matches_of K 0 (length haystack) haystack
+found_by Prefixes K haystack = common_prefixes byte_width K haystack
 
 abbrev pub ServesKind : SearchKind → MatchKind → Type 0
 ServesKind Find kind = kind ≡ Standard
 ServesKind Overlapping kind = kind ≡ Standard
 ServesKind NoSuffix kind = kind ≡ Standard
 ServesKind Leftmost kind = kind ≢ Standard
+ServesKind Whole kind = ⊤
+ServesKind Prefixes kind = ⊤
 
 -- why a call is refused that asks for an automaton of any kind
 abbrev pub IsUseCause : Option Held → Refusal → Type 0

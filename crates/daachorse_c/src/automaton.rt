@@ -4,10 +4,12 @@ ghost use Rattle.std.specs.Prelude.{◌≡◌, ◌≢◌, ◌↔◌, [], None, I
 ghost use Rattle.std.specs.Arc.{arc_value};
 ghost use Rattle.daachorse_model.specs.declared.MatchKind.TheVariants.{Standard};
 ghost use Rattle.daachorse_model.specs.Folding.{as_read};
+ghost use Rattle.daachorse_model.specs.Kinds.{byte_of_kind};
 ghost use Rattle.daachorse_model.specs.Matches.{overlapping};
 ghost use Rattle.daachorse_model.specs.Units.{byte_width};
 ghost use Rattle.daachorse_bytewise.specs.Automata.{dictionary_of, kind_of};
 ghost use Rattle.daachorse_c.specs.declared.refusal.Refusal.TheVariants.{OutOfMemory, WrongKind};
+ghost use Rattle.daachorse_c.specs.Counts.{AreCounts};
 ghost use Rattle.daachorse_c.specs.Held.{automaton_of};
 ghost use Rattle.daachorse_c.specs.Listing.{IsNotListed, HasListed, arrays};
 ghost use Rattle.daachorse_c.specs.Searches.{ServesKind, found_by};
@@ -15,10 +17,11 @@ ghost use Rattle.daachorse_c.specs.Streaming.{HasBegun, HasConsumed, IsIdleCause
 ghost use Rattle.daachorse_c.specs.Writes.{Writes};
 ghost use Rattle.daachorse_c.specs.Written.{IsNotWritten, IsWhole, StandsInFront, form_of};
 
+use crate::counts::Counts;
 use crate::found::CMatch;
-use crate::listing::Listing;
+use crate::listing::{Listing, Room};
 use crate::refusal::Refusal;
-use crate::room::copy_to_front;
+use crate::room::{copy_to_front, put_in_front};
 use crate::search::SearchKind;
 use crate::searches::Searches;
 use crate::stream::{Done, Stream};
@@ -61,7 +64,7 @@ impl Searcher {
         Searcher::over(alloc, Arc::new(alloc, Searches::Plain(automaton))?)
     }
 
-    /// A searcher of a copy of the automaton with rows, if there is room for them, and no stream.
+    /// A searcher of a copy of the automaton, with rows unless it is too large, and no stream.
     /// Fails only if an allocation fails.
     pub(crate) fn accelerate(&self, alloc: Global) -> Result<Box<Searcher, Global>, Refusal>
         ensures searches { IfOk result (λ b. b.value.searches ≡ self.now.searches) }
@@ -69,7 +72,34 @@ impl Searcher {
         ensures err { IfErr result (λ r. r ≡ OutOfMemory) }
     {
         let copy = self.searches.automaton().clone()?;
-        Searcher::over(alloc, Arc::new(alloc, Searches::with_rows(alloc, copy))?)
+        Searcher::over(alloc, Arc::new(alloc, Searches::with_rows(alloc, copy)?)?)
+    }
+
+    /// The number of the kind of searches that the automaton is for.
+    pub(crate) fn kind(&self) -> u32
+        ensures { result ≡ byte_of_kind (kind_of self.now.searches) }
+    {
+        u32::from(u8::from(self.searches.automaton().match_kind()))
+    }
+
+    /// Whether searches ignore the case of ASCII letters.
+    pub(crate) fn is_ascii_case_insensitive(&self) -> bool
+        ensures { result ≡ self.now.searches.folds }
+    {
+        self.searches.automaton().is_ascii_case_insensitive()
+    }
+
+    /// Counts what the automaton holds. Fails only if an allocation fails.
+    pub(crate) fn counts(&self, alloc: Global) -> Result<Counts, Refusal>
+        ensures counts { IfOk result (AreCounts self.now.searches) }
+        ensures err { IfErr result (λ r. r ≡ OutOfMemory) }
+    {
+        let automaton = self.searches.automaton();
+        Ok(Counts {
+            patterns: automaton.num_patterns(alloc)?,
+            states: automaton.num_states(),
+            size: automaton.serialize(alloc)?.len(),
+        })
     }
 
     /// Another searcher of the same automaton, with no stream. Fails only if an allocation fails.
@@ -158,10 +188,20 @@ impl Searcher {
     {
         *size = 0;
         *count = 0;
-        let listing = Listing::new(alloc, self.searches.automaton())?;
-        *size = listing.bytes.len();
-        *count = listing.ends.len();
-        listing.copy_to_front(bytes, ends, values)
+        let room = Room {
+            bytes: bytes.len(),
+            patterns: ends.len().min(values.len()),
+        };
+        let listing = Listing::new(alloc, self.searches.automaton(), room)?;
+        *size = listing.size;
+        *count = listing.count;
+        if !listing.fits(room) {
+            return Err(Refusal::NoRoom);
+        }
+        put_in_front(&listing.bytes, bytes);
+        put_in_front(&listing.ends, ends);
+        put_in_front(&listing.values, values);
+        Ok(())
     }
 
     /// Begins a stream, for all matches or for those that do not overlap. A previous one ends.

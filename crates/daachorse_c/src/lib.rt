@@ -7,12 +7,15 @@
 
 ghost use Rattle.std.specs.Prelude.{◌≡◌, ◌≢◌, ◌↔◌, [], None, Some, IsNone, IsSomeAnd, IsTrue, MatchResult, false, length};
 ghost use Rattle.daachorse_model.specs.Folding.{as_read};
+ghost use Rattle.daachorse_model.specs.Kinds.{byte_of_kind};
 ghost use Rattle.daachorse_model.specs.Matches.{overlapping};
 ghost use Rattle.daachorse_model.specs.Units.{byte_width};
-ghost use Rattle.daachorse_bytewise.specs.Automata.{dictionary_of};
-ghost use Rattle.daachorse_c.specs.declared.search.SearchKind.TheVariants.{Find, Leftmost, NoSuffix, Overlapping};
+ghost use Rattle.daachorse_bytewise.specs.Automata.{dictionary_of, kind_of};
+ghost use Rattle.daachorse_c.specs.declared.search.SearchKind.TheVariants.{Find, Leftmost, NoSuffix, Overlapping, Prefixes, Whole};
 ghost use Rattle.daachorse_c.specs.Building.{IsBuildCause, IsBuiltFrom};
+ghost use Rattle.daachorse_c.specs.Counts.{AreCounts};
 ghost use Rattle.daachorse_c.specs.Listing.{IsListCause, HasListed, arrays};
+ghost use Rattle.daachorse_c.specs.Options.{IsBuiltWithOptions, IsOptionsCause};
 ghost use Rattle.daachorse_c.specs.Refusals.{IsDoneOr, refusal_number};
 ghost use Rattle.daachorse_c.specs.Searches.{IsSearchOf, IsShareCause, IsUseCause};
 ghost use Rattle.daachorse_c.specs.Streaming.{HasBegun, IsBeginCause, IsConsumption};
@@ -20,8 +23,10 @@ ghost use Rattle.daachorse_c.specs.Written.{IsRead, IsReadCause, IsWhole, IsWrit
 
 use crate::automaton::Searcher;
 use crate::building::build;
+use crate::counts::Counts;
 use crate::found::CMatch;
 use crate::handle::Handle;
+use crate::options::Options;
 use crate::reading::read;
 use crate::refusal::Refusal;
 use crate::search::SearchKind;
@@ -29,10 +34,12 @@ use std::alloc::Global;
 
 mod automaton;
 mod building;
+mod counts;
 mod found;
 mod handle;
 mod listing;
 mod loose;
+mod options;
 mod patterns;
 mod reading;
 mod refusal;
@@ -89,6 +96,41 @@ pub extern "C" fn daachorse_build(
     }
 }
 
+/// Does what [`daachorse_build`] does, with its options in a struct.
+///
+/// # Errors
+///
+/// Those of [`daachorse_build`], and the number of [`Refusal::UnknownOption`] if an option that is
+/// not the kind is neither 0 nor 1, or one without a name is not 0. The handle is then unchanged.
+#[unsafe(no_mangle)]
+pub extern "C" fn daachorse_build_with(
+    alloc: Global,
+    handle: &mut Handle,
+    options: &Options,
+    bytes: &[u8],
+    ends: &[usize],
+    values: &[u32],
+) -> u32
+    ensures built { result ≡ 0 → IsSomeAnd handle.new.automaton (λ a. IsBuiltWithOptions options.now bytes.now ends.now values.now a.searches) }
+    ensures stream { result ≡ 0 → IsSomeAnd handle.new.automaton (λ a. a.stream ≡ None) }
+    ensures refused { IsDoneOr (IsOptionsCause options.now bytes.now ends.now values.now) result }
+    ensures unchanged { result ≢ 0 → handle.new.automaton ≡ handle.old.automaton }
+{
+    if !options.are_known() {
+        return Refusal::UnknownOption.number();
+    }
+    daachorse_build(
+        alloc,
+        handle,
+        options.kind,
+        options.no_prefilter != 1,
+        options.ascii_case_insensitive == 1,
+        bytes,
+        ends,
+        values,
+    )
+}
+
 /// Fills `other` with the automaton of the handle, and frees what it held. No copy is made: the
 /// automaton is freed with the last handle that has it. Each of them has a stream of its own, and
 /// `other` has none at first.
@@ -112,8 +154,8 @@ pub extern "C" fn daachorse_share(alloc: Global, handle: &mut Handle, other: &mu
     put_into(alloc, other, answer)
 }
 
-/// Fills `other` with a copy of the automaton that has rows of the states near its root, if there
-/// is room for them, and frees what it held. It finds the same, faster if patterns are few and
+/// Fills `other` with a copy of the automaton that has rows of the states near its root, unless it
+/// is too large for rows, and frees what it held. It finds the same, faster if patterns are few and
 /// short. The handle keeps its own, and `other` has no stream.
 ///
 /// # Errors
@@ -137,6 +179,69 @@ pub extern "C" fn daachorse_accelerate(
     let answer = automaton.accelerate(alloc);
     handle.put(automaton);
     put_into(alloc, other, answer)
+}
+
+/// Writes to `kind` the number of the automaton's kind, and to the other whether it ignores the
+/// case of ASCII letters.
+///
+/// # Errors
+///
+/// The number of [`Refusal::EmptyHandle`]. Nothing is written then.
+#[unsafe(no_mangle)]
+pub extern "C" fn daachorse_kind(
+    alloc: Global,
+    handle: &mut Handle,
+    kind: &mut u32,
+    ascii_case_insensitive: &mut bool,
+) -> u32
+    ensures kept { handle.new.automaton ≡ handle.old.automaton }
+    ensures kind { result ≡ 0 → IsSomeAnd handle.old.automaton (λ a. kind.new ≡ byte_of_kind (kind_of a.searches)) }
+    ensures folds { result ≡ 0 → IsSomeAnd handle.old.automaton (λ a. ascii_case_insensitive.new ≡ a.searches.folds) }
+    ensures refused { IsDoneOr (IsUseCause handle.old.automaton) result }
+    ensures unwritten { result ≢ 0 → (kind.new ≡ kind.old) × (ascii_case_insensitive.new ≡ ascii_case_insensitive.old) }
+{
+    let Some(automaton) = handle.take(alloc) else {
+        return Refusal::EmptyHandle.number();
+    };
+    *kind = automaton.kind();
+    *ascii_case_insensitive = automaton.is_ascii_case_insensitive();
+    handle.put(automaton);
+    DONE
+}
+
+/// Counts the patterns and states of the automaton, and the bytes of its written form.
+///
+/// # Errors
+///
+/// The numbers of [`Refusal::EmptyHandle`] and `OutOfMemory`. Nothing is written then.
+#[unsafe(no_mangle)]
+pub extern "C" fn daachorse_count(alloc: Global, handle: &mut Handle, counts: &mut Counts) -> u32
+    ensures kept { handle.new.automaton ≡ handle.old.automaton }
+    ensures counts { result ≡ 0 → IsSomeAnd handle.old.automaton (λ a. AreCounts a.searches counts.new) }
+    ensures refused { IsDoneOr (IsShareCause handle.old.automaton) result }
+    ensures unwritten { result ≢ 0 → counts.new ≡ counts.old }
+{
+    let Some(automaton) = handle.take(alloc) else {
+        return Refusal::EmptyHandle.number();
+    };
+    let answer = automaton.counts(alloc);
+    handle.put(automaton);
+    match answer {
+        Ok(found) => {
+            *counts = found;
+            DONE
+        }
+        Err(refusal) => refusal.number(),
+    }
+}
+
+/// Returns the version of the Rust crate whose searches these are, as 10,000 times the major
+/// number, 100 times the minor one and the patch.
+#[unsafe(no_mangle)]
+pub extern "C" fn daachorse_version() -> u32
+    ensures { result ≡ 50100 }
+{
+    50_100
 }
 
 /// Writes to `out` the first matches that do not overlap, each ending as early as possible, and
@@ -207,6 +312,35 @@ pub extern "C" fn daachorse_leftmost_find(
     ensures { IsSearchOf Leftmost haystack.now handle.old.automaton handle.new.automaton out.old out.new written.new result }
 {
     write_found(alloc, handle, SearchKind::Leftmost, haystack, out, written)
+}
+
+/// Finds the patterns that are the whole text, in order of registration. Otherwise like
+/// [`daachorse_find`], but for automata of every kind.
+#[unsafe(no_mangle)]
+pub extern "C" fn daachorse_get(
+    alloc: Global,
+    handle: &mut Handle,
+    text: &[u8],
+    out: &mut [CMatch],
+    written: &mut usize,
+) -> u32
+    ensures { IsSearchOf Whole text.now handle.old.automaton handle.new.automaton out.old out.new written.new result }
+{
+    write_found(alloc, handle, SearchKind::Whole, text, out, written)
+}
+
+/// Finds the patterns that begin the text, the shortest first. Otherwise like [`daachorse_get`].
+#[unsafe(no_mangle)]
+pub extern "C" fn daachorse_common_prefixes(
+    alloc: Global,
+    handle: &mut Handle,
+    text: &[u8],
+    out: &mut [CMatch],
+    written: &mut usize,
+) -> u32
+    ensures { IsSearchOf Prefixes text.now handle.old.automaton handle.new.automaton out.old out.new written.new result }
+{
+    write_found(alloc, handle, SearchKind::Prefixes, text, out, written)
 }
 
 /// Writes to `found` whether some pattern occurs in the haystack.

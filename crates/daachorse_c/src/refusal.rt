@@ -36,6 +36,8 @@ pub enum Refusal {
     NoStream,
     /// An offset in the stream, or the number of its matches, would pass 64 bits.
     StreamTooLong,
+    /// An option is neither 0 nor 1, or one without a name is not 0.
+    UnknownOption,
 }
 
 impl Refusal {
@@ -58,6 +60,7 @@ impl Refusal {
             Refusal::NoRoom => 11,
             Refusal::NoStream => 12,
             Refusal::StreamTooLong => 13,
+            Refusal::UnknownOption => 14,
         }
     }
 }

@@ -16,6 +16,10 @@ pub enum SearchKind {
     NoSuffix,
     /// Matches that do not overlap, each starting as early as possible.
     Leftmost,
+    /// The patterns that are the whole haystack.
+    Whole,
+    /// The patterns that begin the haystack.
+    Prefixes,
 }
 
 impl SearchKind {
@@ -26,6 +30,7 @@ impl SearchKind {
         match self {
             SearchKind::Find | SearchKind::Overlapping | SearchKind::NoSuffix => kind.is_standard(),
             SearchKind::Leftmost => kind.is_leftmost(),
+            SearchKind::Whole | SearchKind::Prefixes => true,
         }
     }
 }

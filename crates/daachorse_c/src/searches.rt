@@ -1,18 +1,21 @@
 //! An automaton, alone or with rows of the states near its root.
 
-ghost use Rattle.std.specs.Prelude.{◌≡◌, ◌≢◌, ◌↔◌, [], IsTrue};
+ghost use Rattle.std.specs.Prelude.{◌≡◌, ◌≢◌, ◌↔◌, [], IfErr, IfOk, IsTrue};
 ghost use Rattle.daachorse_model.specs.Folding.{as_read};
 ghost use Rattle.daachorse_model.specs.Matches.{overlapping};
 ghost use Rattle.daachorse_model.specs.Units.{byte_width};
 ghost use Rattle.daachorse_bytewise.specs.Automata.{dictionary_of, kind_of};
+ghost use Rattle.daachorse_c.specs.declared.refusal.Refusal.TheVariants.{OutOfMemory};
+ghost use Rattle.daachorse_c.specs.declared.search.SearchKind.TheVariants.{Whole};
 ghost use Rattle.daachorse_c.specs.Held.{automaton_of};
 ghost use Rattle.daachorse_c.specs.Searches.{ServesKind, found_by};
 ghost use Rattle.daachorse_c.specs.Writes.{Writes};
 
 use crate::found::{CMatch, fill};
+use crate::refusal::Refusal;
 use crate::search::SearchKind;
-use daachorse::DoubleArrayAhoCorasick;
-use daachorse::bytewise::Accelerated;
+use daachorse::bytewise::{AccelerateError, Accelerated};
+use daachorse::{DoubleArrayAhoCorasick, Match};
 use std::alloc::Global;
 
 /// What searches a haystack.
@@ -25,16 +28,20 @@ pub enum Searches {
 }
 
 impl Searches {
-    /// Makes rows for the automaton, if there is room for them.
+    /// Makes rows for the automaton, unless it is too large. Fails only if an allocation fails.
     pub(crate) fn with_rows(
         alloc: Global,
         automaton: DoubleArrayAhoCorasick<u32, Global>,
-    ) -> Searches
-        ensures { automaton_of result ≡ automaton }
+    ) -> Result<Searches, Refusal>
+        ensures searches { IfOk result (λ s. automaton_of s ≡ automaton) }
+        ensures err { IfErr result (λ r. r ≡ OutOfMemory) }
     {
         match automaton.accelerate(alloc) {
-            Ok(rowed) => Searches::Rowed(rowed),
-            Err(refused) => Searches::Plain(refused.automaton),
+            Ok(rowed) => Ok(Searches::Rowed(rowed)),
+            Err(AccelerateError { automaton, refusal }) => match refusal {
+                None => Ok(Searches::Plain(automaton)),
+                Some(error) => Err(error.into()),
+            },
         }
     }
 
@@ -53,9 +60,31 @@ impl Searches {
         requires { ServesKind search (kind_of (automaton_of self.now)) }
         ensures { Writes (found_by search (dictionary_of (automaton_of self.now)) (as_read (automaton_of self.now).folds haystack.now)) out.old out.new result }
     {
-        match self {
-            Searches::Plain(automaton) => find_in(automaton, search, haystack, out),
-            Searches::Rowed(rowed) => find_over_rows(rowed, search, haystack, out),
+        match search {
+            SearchKind::Find => match self {
+                Searches::Plain(plain) => fill(plain.find_iter(haystack), out),
+                Searches::Rowed(rowed) => fill(rowed.find_iter(haystack), out),
+            },
+            SearchKind::Overlapping => match self {
+                Searches::Plain(plain) => fill(plain.find_overlapping_iter(haystack), out),
+                Searches::Rowed(rowed) => fill(rowed.find_overlapping_iter(haystack), out),
+            },
+            SearchKind::NoSuffix => match self {
+                Searches::Plain(plain) => fill(
+                    plain.find_overlapping_no_suffix_iter(haystack),
+                    out,
+                ),
+                Searches::Rowed(rowed) => fill(
+                    rowed.find_overlapping_no_suffix_iter(haystack),
+                    out,
+                ),
+            },
+            SearchKind::Leftmost => match self {
+                Searches::Plain(plain) => fill(plain.leftmost_find_iter(haystack), out),
+                Searches::Rowed(rowed) => fill(rowed.leftmost_find_iter(haystack), out),
+            },
+            SearchKind::Whole => find_whole(self.automaton(), haystack, out),
+            SearchKind::Prefixes => fill(self.automaton().common_prefixes(haystack), out),
         }
     }
 
@@ -70,36 +99,22 @@ impl Searches {
     }
 }
 
-fn find_in(
+/// Writes the patterns that are the whole text.
+fn find_whole(
     automaton: &DoubleArrayAhoCorasick<u32, Global>,
-    search: SearchKind,
-    haystack: &[u8],
+    text: &[u8],
     out: &mut [CMatch],
 ) -> usize
-    requires { ServesKind search (kind_of automaton.now) }
-    ensures { Writes (found_by search (dictionary_of automaton.now) (as_read automaton.now.folds haystack.now)) out.old out.new result }
+    ensures { Writes (found_by Whole (dictionary_of automaton.now) (as_read automaton.now.folds text.now)) out.old out.new result }
 {
-    match search {
-        SearchKind::Find => fill(automaton.find_iter(haystack), out),
-        SearchKind::Overlapping => fill(automaton.find_overlapping_iter(haystack), out),
-        SearchKind::NoSuffix => fill(automaton.find_overlapping_no_suffix_iter(haystack), out),
-        SearchKind::Leftmost => fill(automaton.leftmost_find_iter(haystack), out),
-    }
-}
-
-fn find_over_rows(
-    rowed: &Accelerated<u32, Global>,
-    search: SearchKind,
-    haystack: &[u8],
-    out: &mut [CMatch],
-) -> usize
-    requires { ServesKind search (kind_of rowed.now.automaton) }
-    ensures { Writes (found_by search (dictionary_of rowed.now.automaton) (as_read rowed.now.automaton.folds haystack.now)) out.old out.new result }
-{
-    match search {
-        SearchKind::Find => fill(rowed.find_iter(haystack), out),
-        SearchKind::Overlapping => fill(rowed.find_overlapping_iter(haystack), out),
-        SearchKind::NoSuffix => fill(rowed.find_overlapping_no_suffix_iter(haystack), out),
-        SearchKind::Leftmost => fill(rowed.leftmost_find_iter(haystack), out),
-    }
+    let end = text.len();
+    let values = automaton.get(text);
+    fill(
+        values.map(|value| Match {
+            start: 0,
+            end,
+            value,
+        }),
+        out,
+    )
 }

@@ -1,12 +1,16 @@
--- What was listed and what is left is the listing.
-use Rattle.std.proofs.Common.{◌++◌}
+-- What was counted and what is left is the listing.
+use Rattle.std.proofs.Common.{◌≡◌, ◌++◌, length}
 use Rattle.daachorse_model.specs.Prefixes.{IsListing}
 use Rattle.daachorse_bytewise.specs.Automata.{dictionary_of}
-use Rattle.daachorse_c.specs.Listing.{AreWhole, arrays_of, entries}
+use Rattle.daachorse_c.specs.Listing.{Arrays, AreWhole, Fits, arrays_of, entries}
 use Rattle.daachorse_c.proofs.listing.Listing.new.Given as goal
 
 abbrev pub invariant-loop-item : goal.invariant-loop-item
 invariant-loop-item l = record {
-  whole : AreWhole (arrays_of l.listing);
-  listing : IsListing (dictionary_of l.searches) (entries (arrays_of l.listing) ++ l.item-iterator);
+  listed : Arrays;
+  whole : AreWhole listed;
+  size : l.listing.size ≡ length listed.bytes;
+  count : l.listing.count ≡ length listed.ends;
+  kept : Fits l.listing l.room → arrays_of l.listing ≡ listed;
+  listing : IsListing (dictionary_of l.searches) (entries listed ++ l.item-iterator);
 }

@@ -1,0 +1,160 @@
+/* Calls that the table of rows has no form for: lookups, options, kinds and counts, and what
+ * a caller may pass. Each row of a table here gives what the call must do. */
+#include "daachorse.h"
+
+#include <stdio.h>
+#include <stdlib.h>
+#include <string.h>
+
+enum { ROOM = 64 };
+
+static void need(bool holds, const char *what, size_t row) {
+    if (!holds) {
+        fprintf(stderr, "row %zu is not as it should be: %s\n", row, what);
+        exit(1);
+    }
+}
+
+static const uint8_t *bytes_of(const char *text) {
+    return (const uint8_t *)text;
+}
+
+/* The patterns ab, abcd, bc, ab and cd, with the values 0, 1, 2, 3 and 4. */
+static void build(daachorse *handle, daachorse_options options) {
+    const size_t ends[] = {2, 6, 8, 10, 12};
+    const uint32_t values[] = {0, 1, 2, 3, 4};
+    need(daachorse_build_with(handle, &options, bytes_of("ababcdbcabcd"), 12, ends, 5, values, 5) == DAACHORSE_DONE, "build", 0);
+}
+
+static void accelerate(daachorse *handle) {
+    daachorse rowed = DAACHORSE_EMPTY;
+    need(daachorse_accelerate(handle, &rowed) == DAACHORSE_DONE, "accelerate", 0);
+    daachorse_free(handle);
+    *handle = rowed;
+}
+
+static void see_options(void) {
+    static const struct {
+        daachorse_options options;
+        uint32_t answer;
+    } rows[] = {
+        {{0, 0, 0, {0}}, DAACHORSE_DONE},
+        {{2, 1, 1, {0}}, DAACHORSE_DONE},
+        {{3, 0, 0, {0}}, DAACHORSE_UNKNOWN_KIND},
+        {{0, 2, 0, {0}}, DAACHORSE_UNKNOWN_OPTION},
+        {{0, 0, 2, {0}}, DAACHORSE_UNKNOWN_OPTION},
+        {{0, 0, 0, {1}}, DAACHORSE_UNKNOWN_OPTION},
+        {{0, 0, 0, {0, 0, 0, 0, 1}}, DAACHORSE_UNKNOWN_OPTION},
+    };
+    for (size_t i = 0; i < sizeof rows / sizeof *rows; i++) {
+        const size_t ends[] = {1};
+        const uint32_t values[] = {0};
+        daachorse handle = DAACHORSE_EMPTY;
+        uint32_t kind = 7;
+        bool any_case = true;
+        uint32_t answer = daachorse_build_with(&handle, &rows[i].options, bytes_of("a"), 1, ends, 1, values, 1);
+        need(answer == rows[i].answer, daachorse_answer_text(answer), i);
+        answer = daachorse_kind(&handle, &kind, &any_case);
+        if (rows[i].answer == DAACHORSE_DONE)
+            need(answer == DAACHORSE_DONE && kind == rows[i].options.kind && any_case == (rows[i].options.ascii_case_insensitive == 1),
+                "the kind", i);
+        else
+            need(answer == DAACHORSE_EMPTY_HANDLE && kind == 7 && any_case, "the kind of nothing", i);
+        daachorse_free(&handle);
+    }
+    need(daachorse_version() == DAACHORSE_VERSION_NUMBER, "the version", 0);
+}
+
+static void see_counts(void) {
+    daachorse handle = DAACHORSE_EMPTY;
+    daachorse_counts counts = {7, 7, 7};
+    size_t size;
+    need(daachorse_count(&handle, &counts) == DAACHORSE_EMPTY_HANDLE && counts.patterns == 7, "the counts of nothing", 0);
+    build(&handle, (daachorse_options){0});
+    need(daachorse_count(&handle, &counts) == DAACHORSE_DONE, "count", 0);
+    need(counts.patterns == 5 && counts.states == 9, "the counts", 0);
+    need(daachorse_write(&handle, NULL, 0, &size) == DAACHORSE_NO_ROOM && size == counts.size, "the size", 0);
+    build(&handle, (daachorse_options){.kind = DAACHORSE_LEFTMOST_FIRST});
+    need(daachorse_count(&handle, &counts) == DAACHORSE_DONE && counts.patterns == 4 && counts.states == 7, "the counts of another kind", 1);
+    daachorse_free(&handle);
+}
+
+/* The matches of a lookup as text, each as END=VALUE. */
+static void see_lookups(void) {
+    static const struct {
+        bool any_case;
+        const char *text, *whole, *prefixes;
+    } rows[] = {
+        {false, "", "", ""},
+        {false, "ab", " 2=0 2=3", " 2=0 2=3"},
+        {false, "abc", "", " 2=0 2=3"},
+        {false, "abcd", " 4=1", " 2=0 2=3 4=1"},
+        {false, "abcde", "", " 2=0 2=3 4=1"},
+        {false, "xab", "", ""},
+        {false, "AB", "", ""},
+        {true, "AbCd", " 4=1", " 2=0 2=3 4=1"},
+    };
+    typedef uint32_t lookup_fn(daachorse *, const uint8_t *, size_t, daachorse_match *, size_t, size_t *);
+    lookup_fn *const lookups[] = {daachorse_get, daachorse_common_prefixes};
+    for (size_t i = 0; i < sizeof rows / sizeof *rows; i++)
+        for (uint32_t kind = 0; kind < 2; kind++)
+            for (size_t fast = 0; fast < 2; fast++)
+                for (size_t j = 0; j < 2; j++) {
+                    daachorse handle = DAACHORSE_EMPTY;
+                    daachorse_match found[ROOM];
+                    char text[ROOM] = "";
+                    size_t written;
+                    build(&handle, (daachorse_options){.kind = kind, .ascii_case_insensitive = rows[i].any_case});
+                    if (fast)
+                        accelerate(&handle);
+                    need(lookups[j](&handle, bytes_of(rows[i].text), strlen(rows[i].text), found, ROOM, &written) == DAACHORSE_DONE, "a lookup", i);
+                    for (size_t k = 0; k < written; k++) {
+                        need(found[k].start == 0, "where a match of a lookup starts", i);
+                        sprintf(text + strlen(text), " %zu=%u", found[k].end, (unsigned)found[k].value);
+                    }
+                    need(strcmp(text, j == 0 ? rows[i].whole : rows[i].prefixes) == 0, "what a lookup found", i);
+                    daachorse_free(&handle);
+                }
+}
+
+/* A null pointer may have a length of 0, and what is written to needs no value. */
+static void see_nulls(void) {
+    daachorse handle = DAACHORSE_EMPTY;
+    daachorse_match found[1];
+    size_t size, count;
+    bool is_found;
+    daachorse_free(NULL);
+    need(daachorse_build(&handle, 0, true, false, NULL, 0, NULL, 0, NULL, 0) == DAACHORSE_DONE, "build", 0);
+    need(daachorse_find(&handle, NULL, 0, NULL, 0, &count) == DAACHORSE_DONE && count == 0, "find", 0);
+    need(daachorse_get(&handle, NULL, 0, found, 1, &count) == DAACHORSE_DONE && count == 0, "get", 0);
+    need(daachorse_is_match(&handle, NULL, 0, &is_found) == DAACHORSE_DONE && !is_found, "is_match", 0);
+    need(daachorse_begin(&handle, true) == DAACHORSE_DONE, "begin", 0);
+    need(daachorse_consume(&handle, NULL, 0, NULL, 0, &size, &count) == DAACHORSE_DONE && size == 0 && count == 0, "consume", 0);
+    need(daachorse_list(&handle, NULL, 0, NULL, 0, NULL, 0, &size, &count) == DAACHORSE_DONE && size == 0 && count == 0, "list", 0);
+    need(daachorse_write(&handle, NULL, 0, &size) == DAACHORSE_NO_ROOM && size > 0, "write", 0);
+    need(daachorse_read(&handle, NULL, 0, &size) == DAACHORSE_INVALID_AUTOMATON && size == 0, "read", 0);
+    daachorse_free(&handle);
+}
+
+/* A handle may be moved, also with a stream. */
+static void see_moves(void) {
+    daachorse first = DAACHORSE_EMPTY, second;
+    daachorse_match found[4];
+    size_t taken, written;
+    build(&first, (daachorse_options){0});
+    need(daachorse_begin(&first, true) == DAACHORSE_DONE, "begin", 0);
+    need(daachorse_consume(&first, bytes_of("a"), 1, found, 4, &taken, &written) == DAACHORSE_DONE && written == 0, "consume", 0);
+    second = first;
+    need(daachorse_consume(&second, bytes_of("b"), 1, found, 4, &taken, &written) == DAACHORSE_DONE && written == 2, "consume", 1);
+    need(found[1].start == 0 && found[1].end == 2 && found[1].value == 3, "a match of a moved stream", 1);
+    daachorse_free(&second);
+}
+
+int main(void) {
+    see_options();
+    see_counts();
+    see_lookups();
+    see_nulls();
+    see_moves();
+    return 0;
+}

@@ -1,0 +1,57 @@
+"""Streams: haystacks that come in pieces."""
+
+from __future__ import annotations
+
+import ctypes
+import threading
+from typing import Any
+
+from ._handles import Handles
+from ._library import library, need_done
+from ._matches import valued
+from ._memory import Memory, Room, memory_of
+from ._texts import CodePoints, Text, encoded
+
+_ROOM = 1 << 10
+
+
+class Feed:
+    """A stream of the library, over bytes."""
+
+    def __init__(self, handles: Handles, overlapping: bool):
+        self._taken = ctypes.c_size_t()
+        self._handle = handles.share()
+        need_done(library.begin(self._handle.address, overlapping))
+
+    def consume(self, memory: Memory, place: int, room: Room) -> int:
+        """Feeds bytes from a place on until the room is full, and returns how many were taken."""
+        rest, (out, size, written) = (memory.at(place), memory.length - place), room.words
+        need_done(library.consume(self._handle.address, *rest, out, size, ctypes.addressof(self._taken), written))
+        return self._taken.value
+
+
+class Stream:
+    """A haystack that comes in pieces. It may outlive its automaton, which makes it by `stream`."""
+
+    def __init__(self, feed: Feed, unit: type, code_points: CodePoints, beside: list | None):
+        self._lock = threading.Lock()
+        self._feed, self._unit, self._code_points, self._beside = feed, unit, code_points, beside
+
+    def feed(self, piece: Text) -> list[tuple[int, int, Any]]:
+        """Returns the matches that end in the next piece, and at first also the empty ones at 0.
+
+        Places count from the beginning of the stream.
+        """
+        data = encoded(piece, self._unit)
+        memory, room, place = memory_of(data), Room(_ROOM), 0
+        matches: list[tuple] = []
+        with self._lock:
+            is_full = True
+            while is_full:
+                place += self._feed.consume(memory, place, room)
+                matches += room.matches()
+                is_full = room.is_full()
+            if self._unit is str:
+                self._code_points.add(data)
+                matches = list(self._code_points.moved(matches))
+        return list(valued(matches, self._beside))

@@ -1,0 +1,132 @@
+"""What may be searched: bytes-like objects, with places in bytes, and `str`, in code points.
+
+An automaton over `str` searches its UTF-8. A nonempty match begins and ends at characters. Empty
+matches inside a character are left out, and no other match depends on them.
+"""
+
+from __future__ import annotations
+
+import mmap
+from collections.abc import Iterable, Iterator, Mapping
+from typing import TYPE_CHECKING, Any, Union
+
+if TYPE_CHECKING:
+    from _typeshed import ReadableBuffer
+
+    Text = Union[str, ReadableBuffer]
+else:
+    Text = object
+
+_ONE_TEXT = (str, bytes, bytearray, memoryview, mmap.mmap)
+
+
+def unit_of(text: Any) -> type | None:
+    """`str`, `bytes` for a bytes-like object, and None for what is no text."""
+    if isinstance(text, str):
+        return str
+    if isinstance(text, bytes):
+        return bytes
+    try:
+        with memoryview(text) as view:
+            return bytes if view.ndim else None  # A number of numpy has no dimension.
+    except TypeError:
+        return None
+
+
+def utf8(text: str) -> bytes:
+    """Encodes a text, and raises ValueError if it has a lone surrogate."""
+    try:
+        return text.encode()
+    except UnicodeEncodeError as error:
+        raise ValueError(f"the code point {error.start} of a text is a lone surrogate, which no UTF-8 has") from None
+
+
+def is_utf8(text: bytes) -> bool:
+    try:
+        text.decode()
+    except UnicodeDecodeError:
+        return False
+    return True
+
+
+def encoded(text: Text, unit: type) -> ReadableBuffer:
+    """The bytes of a text that an automaton over this unit is to take."""
+    if isinstance(text, bytes) and unit is bytes:
+        return text
+    own, name = unit_of(text), type(text).__name__
+    if own is None:
+        wanted = "a str" if unit is str else "a bytes-like object"
+        raise TypeError(f"{wanted} is wanted, and this is of the type {name}")
+    if own is not unit:
+        way = "text.encode()" if unit is bytes else "data.decode()"
+        raise TypeError(f"the automaton is over {unit.__name__}, and this is of the type {name}: pass {way}")
+    return utf8(text) if isinstance(text, str) else text
+
+
+def need_unit(unit: Any) -> None:
+    """Raises TypeError for what an automaton is not over."""
+    if unit not in (str, bytes):
+        raise TypeError(f"the unit is str or bytes, and not {unit!r}")
+
+
+def need_list(patterns: Any, what: str) -> None:
+    """Raises TypeError for what is no list of patterns, though Python may iterate over it."""
+    if isinstance(patterns, _ONE_TEXT):
+        way = ": pass a list with it"
+    elif isinstance(patterns, Mapping):
+        way = ": pass list(words) for the patterns, and values=words.values()"
+    elif isinstance(patterns, Iterable):
+        return
+    else:
+        way = ""
+    raise TypeError(f"a list of {what} is wanted, and this is of the type {type(patterns).__name__}{way}")
+
+
+def read_patterns(patterns: Iterable[Text], unit: type | None) -> tuple[list[bytes], type]:
+    """Returns the patterns as bytes, and what they are of."""
+    need_list(patterns, "patterns")
+    if unit is not None:
+        need_unit(unit)
+    texts = []
+    for number, pattern in enumerate(patterns):
+        own, name = unit_of(pattern), type(pattern).__name__
+        if own is None:
+            raise TypeError(f"pattern {number} is of the type {name}, and not a str or a bytes-like object")
+        unit = unit or own
+        if own is not unit:
+            raise TypeError(f"pattern {number} is of the type {name}, and the automaton is over {unit.__name__}")
+        texts.append(utf8(pattern) if isinstance(pattern, str) else bytes(memoryview(pattern)))
+    return texts, unit or bytes
+
+
+class CodePoints:
+    """Turns places in UTF-8, which may come in pieces, into places in code points."""
+
+    def __init__(self, longest: int):
+        self._longest = longest
+        self._reach = bytearray()  # The bytes that a match may still reach back to.
+        self._behind = 0  # How many bytes came before these.
+        self._place = 0  # A place in bytes, and the same in code points.
+        self._count = 0
+
+    def add(self, piece: ReadableBuffer) -> None:
+        """The next bytes, which begin and end at characters."""
+        self._count += len(self._reach[self._place - self._behind :].decode())
+        self._place = self._behind + len(self._reach)
+        spare = max(len(self._reach) - self._longest, 0)
+        del self._reach[:spare]
+        self._behind += spare
+        self._reach += piece
+
+    def moved(self, matches: Iterable[tuple]) -> Iterator[tuple]:
+        """The matches, by rising ends, in code points, without empty ones inside a character."""
+        reach, behind, count = self._reach, self._behind, self._count
+        at = self._place - behind
+        for start, end, value in matches:
+            start, end = start - behind, end - behind
+            if start == end and end < len(reach) and reach[end] & 0xC0 == 0x80:
+                continue
+            count += len(reach[at:end].decode())
+            at = end
+            yield count - len(reach[start:end].decode()), count, value
+        self._place, self._count = at + behind, count

@@ -1,0 +1,280 @@
+//! Tests of the crate, by hand and over the table bindings/rows.
+
+use daachorse_c::{Automaton, Builder, Kind, Match, Refusal};
+
+const PATTERNS: [&[u8]; 4] = [b"ab", b"abcd", b"bc", b"cd"];
+
+fn triples<M: IntoIterator<Item = Match>>(found: Result<M, Refusal>) -> Vec<(usize, usize, u32)> {
+    found
+        .unwrap()
+        .into_iter()
+        .map(|found| (found.start, found.end, found.value))
+        .collect()
+}
+
+#[test]
+fn case_is_disregarded_where_it_is_asked_for() {
+    for yes in [false, true] {
+        let builder = Builder::default().ascii_case_insensitive(yes);
+        let automaton = builder.build(PATTERNS).unwrap();
+        let found = triples(automaton.find(b"xABcd"));
+        let wanted: &[_] = if yes {
+            &[(1, 3, 0), (3, 5, 3)]
+        } else {
+            &[(3, 5, 3)]
+        };
+        assert_eq!(found, wanted);
+        assert_eq!(automaton.is_match(b"xaB"), yes);
+        let written = automaton.write().unwrap();
+        let (again, _) = Automaton::read(&written).unwrap();
+        assert_eq!(triples(again.find(b"xABcd")), wanted);
+    }
+}
+
+#[test]
+fn each_search_finds_its_matches() {
+    for use_prefilter in [false, true] {
+        let standard = Automaton::new(Kind::Standard, use_prefilter, PATTERNS).unwrap();
+        assert_eq!(triples(standard.find(b"abcd")), [(0, 2, 0), (2, 4, 3)]);
+        assert_eq!(
+            triples(standard.find_overlapping(b"abcd")),
+            [(0, 2, 0), (1, 3, 2), (0, 4, 1), (2, 4, 3)]
+        );
+        assert_eq!(
+            triples(standard.find_overlapping_no_suffix(b"abcd")),
+            [(0, 2, 0), (1, 3, 2), (0, 4, 1)]
+        );
+        let longest = Automaton::new(Kind::LeftmostLongest, use_prefilter, PATTERNS).unwrap();
+        assert_eq!(triples(longest.leftmost_find(b"abcd")), [(0, 4, 1)]);
+        let first = Automaton::new(Kind::LeftmostFirst, use_prefilter, PATTERNS).unwrap();
+        assert_eq!(
+            triples(first.leftmost_find(b"abcd")),
+            [(0, 2, 0), (2, 4, 3)]
+        );
+    }
+}
+
+fn text(word: &str) -> Vec<u8> {
+    if word == "-" {
+        return Vec::new();
+    }
+    let digits = |at: usize| u8::from_str_radix(&word[at..at + 2], 16).unwrap();
+    (0..word.len()).step_by(2).map(digits).collect()
+}
+
+fn numbers(word: &str) -> (usize, usize, u32) {
+    let mut parts = word.split('-').map(|part| part.parse::<usize>().unwrap());
+    let mut next = || parts.next().unwrap();
+    (next(), next(), next() as u32)
+}
+
+/// The words of each row of the table `bindings/rows`, which C and Python are tested with too.
+fn rows() -> impl Iterator<Item = Vec<&'static str>> {
+    let rows = include_str!("../../rows").lines();
+    rows.map(|row| row.split(' ').collect())
+}
+
+/// The settings and the patterns of a row.
+fn settings(words: &[&str]) -> (Builder, Vec<Vec<u8>>) {
+    let kinds = [Kind::Standard, Kind::LeftmostLongest, Kind::LeftmostFirst];
+    let builder = Builder::new()
+        .kind(kinds[words[1].parse::<usize>().unwrap()])
+        .ascii_case_insensitive(words[2] == "1");
+    let patterns = match words[3] {
+        "none" => Vec::new(),
+        listed => listed.split(',').map(text).collect(),
+    };
+    (builder, patterns)
+}
+
+#[test]
+fn each_row_is_listed() {
+    for words in rows().filter(|words| words[0] == "patterns") {
+        let pair = |word: &&str| {
+            let (pattern, value) = word.split_once(':').unwrap();
+            (text(pattern), value.parse::<u32>().unwrap())
+        };
+        let wanted: Vec<_> = words[6..].iter().map(pair).collect();
+        let (builder, patterns) = settings(&words);
+        let automaton = builder.build(patterns.iter().map(Vec::as_slice)).unwrap();
+        assert_eq!(automaton.patterns().unwrap(), wanted, "{words:?}");
+        let listed = wanted.iter().map(|(pattern, value)| (&pattern[..], *value));
+        let again = Builder::new().build_with_values(listed).unwrap();
+        assert_eq!(again.patterns().unwrap(), wanted, "{words:?}");
+    }
+}
+
+#[test]
+fn each_row_is_found() {
+    for words in rows().filter(|words| words[0] != "patterns") {
+        let (builder, patterns) = settings(&words);
+        let haystack = text(words[4]);
+        let wanted: Vec<_> = words[6..].iter().map(|word| numbers(word)).collect();
+        for use_prefilter in [false, true] {
+            let patterns = patterns.iter().map(Vec::as_slice);
+            let automaton = builder
+                .use_prefilter(use_prefilter)
+                .build(patterns)
+                .unwrap();
+            for searcher in [&automaton, &automaton.accelerate().unwrap()] {
+                let found = match words[0] {
+                    "find" => searcher.find(&haystack),
+                    "find_overlapping" => searcher.find_overlapping(&haystack),
+                    "find_overlapping_no_suffix" => searcher.find_overlapping_no_suffix(&haystack),
+                    _ => searcher.leftmost_find(&haystack),
+                };
+                assert_eq!(triples(found), wanted, "{words:?}");
+            }
+            if let "find" | "find_overlapping" = words[0] {
+                let mut stream = automaton.stream(words[0] != "find").unwrap();
+                let mut told = triples(stream.feed(b""));
+                for piece in haystack.chunks(2) {
+                    told.extend(triples(stream.feed(piece)));
+                }
+                assert_eq!(told, wanted, "{words:?}");
+            }
+        }
+    }
+}
+
+#[test]
+fn room_grows() {
+    let automaton = Automaton::with_values(Kind::Standard, true, [(&b"a"[..], 5)]).unwrap();
+    let found = triples(automaton.find_overlapping(&[b'a'; 1000]));
+    assert_eq!(found.len(), 1000);
+    assert_eq!(found[999], (999, 1000, 5));
+}
+
+/// The leftmost matches: at each start the longest pattern, or the earliest.
+fn leftmost(patterns: &[&[u8]], haystack: &[u8], is_first: bool) -> Vec<(usize, usize, u32)> {
+    let (mut found, mut start, mut behind) = (Vec::new(), 0, None);
+    while start <= haystack.len() {
+        let rest = &haystack[start..];
+        let here = (0..).zip(patterns).filter(|(_, it)| rest.starts_with(it));
+        let best = here.min_by_key(|(_, it)| if is_first { 0 } else { usize::MAX - it.len() });
+        let mut step = 1;
+        if let Some((value, pattern)) = best {
+            let end = start + pattern.len();
+            if !pattern.is_empty() || behind != Some(start) {
+                found.push((start, end, value));
+                behind = Some(end);
+            }
+            step = step.max(pattern.len());
+        }
+        start += step;
+    }
+    found
+}
+
+#[test]
+fn matches_behind_a_full_room_are_those_of_the_whole() {
+    let haystack: Vec<u8> = b"aabaaab".iter().copied().cycle().take(3000).collect();
+    let lists: [&[&[u8]]; 4] = [
+        &[b"a", b"b"],
+        &[b"a", b"b", b"ba", b"aabaaabaa"],
+        &[b"a", b"", b"ab"],
+        &[b"", b"ab"],
+    ];
+    for patterns in lists {
+        let build = |kind| Automaton::new(kind, true, patterns.iter().copied()).unwrap();
+        let standard = build(Kind::Standard);
+        let written = standard.write().unwrap();
+        let (read, _) = Automaton::read(&written).unwrap();
+        for automaton in [standard, read] {
+            let told =
+                |overlapping| triples(automaton.stream(overlapping).unwrap().feed(&haystack));
+            assert_eq!(
+                triples(automaton.find(&haystack)),
+                told(false),
+                "{patterns:?}"
+            );
+            let mut all = told(true);
+            assert_eq!(
+                triples(automaton.find_overlapping(&haystack)),
+                all,
+                "{patterns:?}"
+            );
+            all.dedup_by_key(|found| found.1);
+            let longest = automaton.find_overlapping_no_suffix(&haystack);
+            assert_eq!(triples(longest), all, "{patterns:?}");
+        }
+        for (kind, is_first) in [(Kind::LeftmostLongest, false), (Kind::LeftmostFirst, true)] {
+            let found = triples(build(kind).leftmost_find(&haystack));
+            assert_eq!(
+                found,
+                leftmost(patterns, &haystack, is_first),
+                "{patterns:?}"
+            );
+        }
+    }
+}
+
+#[test]
+fn a_stream_tells_what_a_search_finds() {
+    let patterns: [&[u8]; 2] = [b"a", b"aa"];
+    let automaton = Automaton::new(Kind::Standard, true, patterns).unwrap();
+    let wanted = triples(automaton.find_overlapping(&[b'a'; 1000]));
+    let mut stream = automaton.stream(true).unwrap();
+    let mut told = triples(stream.feed(&[b'a'; 500]));
+    told.extend(triples(stream.feed(&[b'a'; 500])));
+    assert_eq!(told, wanted);
+    let first = Automaton::new(Kind::LeftmostFirst, true, patterns).unwrap();
+    assert_eq!(
+        first.stream(true).map(|_| ()).err(),
+        Some(Refusal::WrongKind)
+    );
+}
+
+#[test]
+fn what_was_written_is_read_back() {
+    let automaton = Automaton::new(Kind::Standard, true, PATTERNS).unwrap();
+    let mut written = automaton.write().unwrap();
+    assert_eq!(
+        Automaton::read(&written[1..]).err(),
+        Some(Refusal::InvalidAutomaton)
+    );
+    written.extend_from_slice(b"rest");
+    let (again, rest) = Automaton::read(&written).unwrap();
+    assert_eq!(rest, b"rest");
+    assert!(again.is_match(b"xcdx"));
+    assert!(!again.is_match(b"acbd"));
+}
+
+#[test]
+fn a_search_of_another_kind_is_refused() {
+    let automaton = Automaton::new(Kind::Standard, true, PATTERNS).unwrap();
+    assert_eq!(
+        automaton.leftmost_find(b"abcd").err(),
+        Some(Refusal::WrongKind)
+    );
+}
+
+#[test]
+fn threads_search_one_automaton_at_once() {
+    let automaton = Automaton::new(Kind::Standard, true, PATTERNS).unwrap();
+    let wanted = triples(automaton.find_overlapping(b"abcd"));
+    let threads: Vec<_> = (0..8)
+        .map(|_| {
+            let (automaton, wanted) = (automaton.clone(), wanted.clone());
+            std::thread::spawn(move || {
+                for _ in 0..200 {
+                    assert_eq!(triples(automaton.find_overlapping(b"abcd")), wanted);
+                }
+            })
+        })
+        .collect();
+    for thread in threads {
+        thread.join().unwrap();
+    }
+}
+
+#[test]
+fn streams_stand_apart_and_outlive_their_automaton() {
+    let automaton = Automaton::new(Kind::Standard, true, PATTERNS).unwrap();
+    let mut one = automaton.stream(true).unwrap();
+    let mut other = automaton.stream(false).unwrap();
+    drop(automaton);
+    assert_eq!(triples(one.feed(b"ab")), [(0, 2, 0)]);
+    assert_eq!(triples(other.feed(b"xcd")), [(1, 3, 3)]);
+    assert_eq!(triples(one.feed(b"cd")), [(1, 3, 2), (0, 4, 1), (2, 4, 3)]);
+}

@@ -1,16 +1,19 @@
 #!/bin/sh
-# Builds the library for C, Python and Rust in this clone, and runs the examples and tests of each.
+# Builds the library for C, Python and Rust in this clone, runs the examples and tests of each, and
+# packs them by package.sh.
 #
 #     bindings/build.sh [--after-gate] [FOLDER]
 #
-# The output goes to FOLDER, else to bindings/out: libdaachorse.so.5 with the link libdaachorse.so,
-# the example in C, a test in C over the table bindings/rows, which rows.py makes, one that refuses
-# each allocation in turn, and one in which threads search an automaton at once.
+# The output goes to FOLDER, else to bindings/out: libdaachorse.so.1 with the link libdaachorse.so,
+# the example in C, and tests in C: over the table bindings/rows, which rows.py makes, of the other
+# calls, of each allocation refused in turn, of the memory that a hostile form takes, and of threads
+# that search an automaton at once.
 #
 # It needs the Rattle kit (its command rt), which first proves what is not proved yet, and a C
-# compiler, CC or cc, with a linker that has --wrap. Without valgrind, python3 or a cargo that runs,
-# it says so and skips what needs it. With --after-gate, which .ci/run passes right after rt ci, it
-# uses the libraries that the gate proved, and succeeds without a C compiler and after warnings.
+# compiler, CC or cc, with a linker that has --wrap. Without valgrind, python3, Dask, objcopy or a
+# cargo that runs, it says so and skips what needs it; tools/debian.sh installs them. With
+# --after-gate, which .ci/run passes right after rt ci, it uses the libraries that the gate proved,
+# and succeeds without a C compiler and after warnings.
 set -eu
 here=$(CDPATH= cd -- "$(dirname -- "$0")" && pwd)
 crate="$here/../crates/daachorse_c"
@@ -46,9 +49,9 @@ fi
 library="$crate/out/libdaachorse_c.a"
 # The kit's archive has the calls of malloc, realloc and free.
 heap="$kit/c/liblibc_c.a"
-"$compiler" -shared -o "$out/libdaachorse.so.5" -Wl,-soname,libdaachorse.so.5 -Wl,--version-script="$here/c/exports" \
+"$compiler" -shared -o "$out/libdaachorse.so.1" -Wl,-soname,libdaachorse.so.1 -Wl,--version-script="$here/c/exports" \
     -Wl,--whole-archive "$library" -Wl,--no-whole-archive "$heap"
-ln -sf libdaachorse.so.5 "$out/libdaachorse.so"
+ln -sf libdaachorse.so.1 "$out/libdaachorse.so"
 if command -v nm >/dev/null && nm -D --defined-only "$out/libdaachorse.so" | grep -v ' daachorse_'; then
     echo "build.sh: the library exports more than its own names" >&2
     exit 1
@@ -61,7 +64,9 @@ compile() {
 }
 compile example
 compile rows
+compile calls
 compile refusals -Wl,--wrap=malloc,--wrap=realloc
+compile memory -Wl,--wrap=malloc,--wrap=realloc,--wrap=free
 compile threads -pthread
 
 "$out/example" > "$out/example.stdout"
@@ -69,13 +74,17 @@ diff "$here/c/example.stdout" "$out/example.stdout"
 echo "build.sh: the example in C wrote what it should"
 "$out/rows" < "$here/rows"
 echo "build.sh: in C each search and each listing wrote what its row says"
+"$out/calls"
+echo "build.sh: in C the other calls did what their rows say"
 "$out/refusals"
 echo "build.sh: each request for memory may be refused"
+"$out/memory"
+echo "build.sh: a listing without room held no patterns"
 "$out/threads" 200
 echo "build.sh: threads searched shared automata at once"
 
 if valgrind -q "$out/trial" >/dev/null 2>&1; then
-    for program in example rows refusals; do
+    for program in example rows calls refusals memory; do
         valgrind -q --leak-check=full --show-leak-kinds=all --errors-for-leak-kinds=all --error-exitcode=1 "$out/$program" < "$here/rows" >/dev/null
     done
     valgrind -q --tool=helgrind --error-exitcode=1 "$out/threads" 2 >/dev/null
@@ -85,9 +94,16 @@ else
 fi
 
 if python3 -c 'import ctypes, unittest' 2>/dev/null; then
-    PYTHONDONTWRITEBYTECODE=1 python3 "$here/rows.py" | diff "$here/rows" -
-    DAACHORSE_LIBRARY="$out/libdaachorse.so" PYTHONPATH="$here/python" PYTHONDONTWRITEBYTECODE=1 python3 "$here/python/test_daachorse.py"
+    export PYTHONDONTWRITEBYTECODE=1 PYTHONPATH="$here/python:$here/../examples" DAACHORSE_LIBRARY="$out/libdaachorse.so"
+    python3 "$here/rows.py" | diff "$here/rows" -
+    python3 "$here/python/test_daachorse.py"
     echo "build.sh: the tests in Python passed"
+    if /usr/bin/python3 -c 'import distributed' 2>/dev/null; then
+        timeout 900 /usr/bin/python3 "$here/../examples/dask_search_test.py"
+        echo "build.sh: the search by Dask passed its test"
+    else
+        echo "build.sh: /usr/bin/python3 has no distributed, so the search by Dask was not tested"
+    fi
 else
     echo "build.sh: there is no python3 with ctypes, so its tests were not run"
 fi
@@ -97,4 +113,10 @@ if cargo --version >/dev/null 2>&1 && rustc --version >/dev/null 2>&1; then
     echo "build.sh: the tests in Rust passed"
 else
     echo "build.sh: there is no cargo that runs, so the tests in Rust were not run"
+fi
+
+if command -v objcopy >/dev/null; then
+    "$here/package_test.sh" "$out"
+else
+    echo "build.sh: there is no objcopy, so no packages were made"
 fi

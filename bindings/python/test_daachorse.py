@@ -337,7 +337,8 @@ class ThreadTest(unittest.TestCase):
         automaton, haystack = Automaton([b"ab", b"cdc"], use_prefilter=False), b"acbd" * 4000000
         works = [lambda: hashlib.sha256(haystack).digest(), lambda: list(automaton.find_overlapping(haystack))]
         # Hashing, which is known to hold no lock, says whether two cores are free.
-        hashing, searching = ([at_once(2, work) / at_once(1, work) for _ in range(7)] for work in works)
+        rounds = [[at_once(2, work) / at_once(1, work) for work in works] for _ in range(7)]
+        hashing, searching = zip(*rounds)
         if statistics.median(hashing) > 1.2:
             self.skipTest("only one core is free")
         self.assertLessEqual(statistics.median(searching), 1.4)

@@ -5,6 +5,7 @@ import os
 import random
 import signal
 import tempfile
+import time
 import unittest
 
 import dask_search
@@ -12,6 +13,12 @@ from daachorse import Automaton
 from distributed import Client, as_completed
 
 PATTERNS = [b"ab", b"abcd", b"bc", b"cd", b"aaab" * 40]
+
+
+def search_slowly(block):
+    """Takes long enough for a worker to be killed before all blocks were searched."""
+    time.sleep(0.01)
+    return dask_search.search_block(block)
 
 
 class KilledWorkerTest(unittest.TestCase):
@@ -36,7 +43,7 @@ class KilledWorkerTest(unittest.TestCase):
         counts = client.gather(dask_search.submit(client, PATTERNS, blocks, dask_search.count_block))
         pids = client.run(os.getpid)
         self.assertEqual(len(pids), 2)
-        futures = dask_search.submit(client, PATTERNS, blocks)
+        futures = dask_search.submit(client, PATTERNS, blocks, search_slowly)
         next(as_completed(futures))
         os.kill(min(pids.values()), signal.SIGKILL)
         self.assertTrue(any(future.status == "pending" for future in futures))

@@ -314,7 +314,7 @@ const WORDS: &[&str] = &["-nob", "-f", "words", "log", "open"];
 
 const WRITTEN: &[u8] = b"log:1:3:error\nlog:3:14:ab\nlog:3:16:ab\n";
 
-// Whether a command whose output takes so many bytes writes just these, and fails unless that is all.
+// Whether a command whose output takes so many bytes writes just these, and fails if more is left.
 fn halts_so(alloc: Global, left: usize) -> bool {
     let mut files = Memory { alloc };
     let mut out = WriterSink::new(Halting {

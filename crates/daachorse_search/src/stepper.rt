@@ -131,12 +131,14 @@ where
         ensures read { self.new.read ≡ self.old.read ++ as_read self.old.folds (W.Unit.unit unit ∷ []) }
         ensures given { self.new.given ≡ self.old.given + length (W.sees.found self.new.automaton self.new.read) }
     {
-        // Folding keeps the number of bytes.
-        let bytes = unit.num_bytes();
         if unit.folds_apart(self.walk.overlaps()) && self.folds {
-            self.advance(unit.folded(), bytes);
+            let folded = unit.folded();
+            let bytes = folded.num_bytes();
+            self.advance(folded, bytes);
             return;
         }
+        // Folding keeps the number of bytes.
+        let bytes = unit.num_bytes();
         let read = if self.folds { unit.folded() } else { unit };
         self.advance(read, bytes);
     }

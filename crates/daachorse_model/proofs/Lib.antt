@@ -30,3 +30,4 @@ pub mod StandardEnds
 pub mod TextOrder
 pub mod FoldLaws
 pub mod AsRead
+pub mod Certain

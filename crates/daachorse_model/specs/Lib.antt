@@ -4,6 +4,7 @@ pub mod Dictionary
 pub mod Matches
 pub mod Resumed
 pub mod Leftmost
+pub mod Certain
 pub mod Prefixes
 pub mod Outputs
 pub mod Best

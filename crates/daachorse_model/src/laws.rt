@@ -3,7 +3,7 @@
 //! After a call its clauses are known of all patterns and all haystacks. These are lists of units;
 //! `width` is `byte_width`, `char_width` or any other width.
 
-ghost use Rattle.std.specs.Prelude.{◌≡◌, ◌↔◌, ℕ, Bool, List, [], All, Contains, length, encode_utf8_all, option_to_list};
+ghost use Rattle.std.specs.Prelude.{◌≡◌, ◌↔◌, ℕ, Bool, List, [], ◌++◌, All, Contains, length, encode_utf8_all, option_to_list};
 ghost use Rattle.std.specs.Str.{IsCharBoundary, IsUtf8, chars};
 ghost use Rattle.std.specs.Cmp.Lexicographic.{slice_cmp};
 ghost use Rattle.std.specs.Ordering.{nat_cmp};
@@ -13,6 +13,7 @@ ghost use Rattle.daachorse_model.specs.Folding.{folded, as_read, texts_as_read};
 ghost use Rattle.daachorse_model.specs.Dictionary.{kept_registrations, dictionary, in_bytes};
 ghost use Rattle.daachorse_model.specs.Matches.{overlapping, no_suffix, standard, at_each_end, standard_after};
 ghost use Rattle.daachorse_model.specs.Leftmost.{leftmost};
+ghost use Rattle.daachorse_model.specs.Certain.{AreCertain};
 ghost use Rattle.daachorse_model.specs.Laws.{IsOccurrence, IsReadOccurrence, IsRegistered, Follows, IsLongestAtStart, IsEarliestAtStart};
 
 use crate::MatchKind;
@@ -55,6 +56,17 @@ pub fn leftmost_first_is_earliest<V: Copy>()
     ensures longest_of_kept { (width : ℕ → ℕ) (patterns : List (List ℕ × V)) (h : List ℕ)
         → leftmost width (dictionary MatchKind.LeftmostFirst patterns) h
         ≡ leftmost width (dictionary MatchKind.LeftmostLongest (kept_registrations MatchKind.LeftmostFirst patterns)) h }
+{}
+
+/// The leftmost matches that are certain after some units are one list. It begins the matches of
+/// these units, and those that are certain after more units.
+pub fn certain_matches_grow<V: Copy>(kind: MatchKind)
+    ensures one { (width : ℕ → ℕ) (patterns : List (List ℕ × V)) (c : List ℕ) (ms ns : List (Match V))
+        → let K = dictionary kind patterns in AreCertain width K c ms → AreCertain width K c ns → ms ≡ ns }
+    ensures begins { (width : ℕ → ℕ) (patterns : List (List ℕ × V)) (c : List ℕ) (ms : List (Match V))
+        → let K = dictionary kind patterns in AreCertain width K c ms → (rest : List (Match V)) × (leftmost width K c ≡ ms ++ rest) }
+    ensures grows { (width : ℕ → ℕ) (patterns : List (List ℕ × V)) (c d : List ℕ) (ms ns : List (Match V))
+        → let K = dictionary kind patterns in AreCertain width K c ms → AreCertain width K (c ++ d) ns → (rest : List (Match V)) × (ns ≡ ms ++ rest) }
 {}
 
 /// On text and nonempty patterns of text, bytes and characters give the same matches, with or

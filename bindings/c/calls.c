@@ -117,6 +117,35 @@ static void see_lookups(void) {
                 }
 }
 
+/* Places in a text of four characters, of 1, 2, 3 and 1 bytes, which is given from a byte on. */
+static void see_characters(void) {
+    static const char text[] = "a\xc3\xa9\xe6\xbc\xa2z";
+    static const struct {
+        size_t bytes, characters, origin;
+        daachorse_match given, turned;
+    } rows[] = {
+        {0, 0, 0, {0, 0, 1}, {0, 0, 1}},
+        {0, 0, 0, {0, 1, 2}, {0, 1, 2}},
+        {0, 0, 0, {1, 6, 3}, {1, 3, 3}},
+        {0, 0, 0, {7, 7, 4}, {4, 4, 4}},
+        {0, 0, 0, {4, 4, 5}, {3, 2, 5}},
+        {0, 0, 0, {100, 200, 6}, {4, 4, 6}},
+        {2, 2, 0, {3, 6, 7}, {2, 3, 7}},
+        {2, 2, 3, {0, 3, 8}, {2, 3, 8}},
+        {3, 1002, 3, {0, 4, 9}, {1002, 1004, 9}},
+        {0, SIZE_MAX, 0, {1, 3, 10}, {SIZE_MAX, SIZE_MAX, 10}},
+        {0, 0, SIZE_MAX, {1, 1, 11}, {4, 4, 11}},
+    };
+    for (size_t i = 0; i < sizeof rows / sizeof *rows; i++) {
+        daachorse_match match = rows[i].given;
+        size_t bytes = rows[i].bytes;
+        daachorse_to_characters(bytes_of(text) + bytes, strlen(text) - bytes, bytes, rows[i].characters, rows[i].origin, &match, 1);
+        need(match.start == rows[i].turned.start && match.end == rows[i].turned.end && match.value == rows[i].turned.value,
+            "the places in characters", i);
+    }
+    daachorse_to_characters(NULL, 0, 0, 0, 0, NULL, 0);
+}
+
 /* A null pointer may have a length of 0, and what is written to needs no value. */
 static void see_nulls(void) {
     daachorse handle = DAACHORSE_EMPTY;
@@ -154,6 +183,7 @@ int main(void) {
     see_options();
     see_counts();
     see_lookups();
+    see_characters();
     see_nulls();
     see_moves();
     return 0;

@@ -150,6 +150,13 @@ uint32_t daachorse_kind(daachorse *handle, uint32_t *kind, bool *ascii_case_inse
  * DAACHORSE_EMPTY_HANDLE or DAACHORSE_OUT_OF_MEMORY. */
 uint32_t daachorse_count(daachorse *handle, daachorse_counts *counts);
 
+/* Turns the places of matches, in bytes, into places in characters of a text in UTF-8. The places
+ * count from origin, and so many bytes and characters come before the text, of which all from there
+ * to the last place are given. An empty match inside a character ends before that character, and
+ * starts after it. Where ends rise, it takes time linear in the text and in what matches it. */
+void daachorse_to_characters(const uint8_t *text, size_t text_len, size_t bytes, size_t characters, size_t origin,
+        daachorse_match *matches, size_t matches_len);
+
 /* Fills other with the automaton of the handle, and frees what it held. Nothing is copied: a few
  * words are allocated. Each handle has a stream of its own, and other has none at first. Returns
  * DAACHORSE_DONE or, with other unchanged, DAACHORSE_EMPTY_HANDLE or DAACHORSE_OUT_OF_MEMORY. */
@@ -301,6 +308,13 @@ static inline uint32_t daachorse_kind_in_c(daachorse *handle, uint32_t *kind, bo
     return answer;
 }
 #define daachorse_kind daachorse_kind_in_c
+
+static inline void daachorse_to_characters_in_c(const uint8_t *text, size_t text_len, size_t bytes, size_t characters,
+        size_t origin, daachorse_match *matches, size_t matches_len) {
+    if (matches_len > 0)
+        daachorse_to_characters((const uint8_t *)daachorse_some(text), text_len, bytes, characters, origin, matches, matches_len);
+}
+#define daachorse_to_characters daachorse_to_characters_in_c
 
 #define DAACHORSE_SEARCH_IN_C(search)                                                                                \
     static inline uint32_t search##_in_c(daachorse *handle, const uint8_t *haystack, size_t haystack_len,             \

@@ -13,9 +13,10 @@ from ._library import Kind, Refusal, Refused, library, need_done
 from ._lookups import Words
 from ._matches import Match, valued
 from ._memory import Memory, memory_of
-from ._search import Call, apart, is_dense, overlapping, streamed
+from ._places import CodePoints, Places, at_characters
+from ._search import Call, Found, apart, overlapping, read_found, streamed
 from ._stream import Feed, Stream
-from ._texts import CodePoints, Text, encoded, is_utf8, need_list, need_unit, read_patterns
+from ._texts import Text, encoded, is_utf8, need_list, need_unit, read_patterns
 
 if TYPE_CHECKING:
     from _typeshed import ReadableBuffer
@@ -55,7 +56,7 @@ class Automaton:
         joined = b"".join(texts)
         words = joined, len(joined), ends, len(ends), numbers, len(numbers)
         handles = Handles(library.build, kind, use_prefilter, ascii_case_insensitive, *words)
-        facts = Facts(Kind(kind), bool(ascii_case_insensitive), max(map(len, texts), default=0))
+        facts = Facts(Kind(kind), bool(ascii_case_insensitive), max(map(len, texts), default=0), b"" in texts)
         self._become(handles, facts, unit, beside)
 
     @classmethod
@@ -202,8 +203,7 @@ class Automaton:
         ([], [(1, 3, 0)])
         """
         self._need_kind("stream")
-        code_points = CodePoints(self._facts.longest)
-        return Stream(Feed(self._handles, overlapping), self._unit, code_points, self._beside)
+        return Stream(Feed(self._handles, overlapping), self._unit, self._places(), self._facts.has_empty, self._beside)
 
     def items(self) -> list[tuple[Any, Any]]:
         """Returns the patterns of the automaton, each with its value.
@@ -294,27 +294,39 @@ class Automaton:
     def _search(self, name: str, haystack: Text, size: int = FIRST_ROOM) -> Iterator[tuple[int, int, Any]]:
         self._need_kind(name)
         data = encoded(haystack, self._unit)
-        memory = memory_of(data)
-        call = functools.partial(self._handles.search, getattr(library, name), memory)
+        in_code_points = isinstance(haystack, str) and not haystack.isascii()
+        memory, places = memory_of(data), self._places() if in_code_points else Places()
+        places.add(data)
+
+        def call(place: int, size: int) -> Found:
+            read = functools.partial(read_found, places, origin=place)
+            return self._handles.search(getattr(library, name), memory, place, size, read)
+
         found = call(0, size)
-        matches: Iterator[tuple] = iter(found)
-        if len(found) == size:
-            matches = itertools.chain(found, itertools.chain.from_iterable(self._later(name, call, memory, found)))
-        if isinstance(haystack, str) and not haystack.isascii():
-            code_points = CodePoints(self._facts.longest)
-            code_points.add(data)
-            matches = code_points.moved(matches)
+        matches: Iterator[tuple] = iter(found.matches)
+        if len(found.matches) == size:
+            later = self._later(name, call, memory, places, found)
+            matches = itertools.chain(matches, itertools.chain.from_iterable(later))
+        if in_code_points and self._facts.has_empty:
+            matches = at_characters(matches)
         return valued(matches, self._beside)
 
-    def _later(self, name: str, call: Call, memory: Memory, found: list[tuple]) -> Iterator[Iterable[tuple]]:
+    def _later(self, name: str, call: Call, memory: Memory, places: Places, found: Found) -> Iterator[Iterable[tuple]]:
         """Yields what follows the first matches, in parts."""
-        size, overlaps = len(found), name.startswith("find_overlapping")
-        if name in ("find", "find_overlapping") and is_dense(found):
-            yield from streamed(Feed(self._handles, overlaps), memory, size)
+        size, overlaps = len(found.matches), name.startswith("find_overlapping")
+        if name in ("find", "find_overlapping") and found.is_dense():
+            yield from streamed(Feed(self._handles, overlaps), memory, places, size)
         elif overlaps:
-            yield from overlapping(call, self._facts.longest, found, size)
+            yield from overlapping(call, self._reach(), found, size)
         else:
             yield from apart(call, memory.length, found, size)
+
+    def _places(self) -> Places:
+        return CodePoints(self._reach()) if self._unit is str else Places()
+
+    def _reach(self) -> int:
+        """How many bytes before the end of a match another may start that has the same end in code points."""
+        return self._facts.longest + 3
 
     def _lookup(self) -> Words:
         if self._words is None:

@@ -18,6 +18,8 @@ class Facts(NamedTuple):
     ignores_ascii_case: bool
     longest: int
     """No pattern has more bytes."""
+    has_empty: bool
+    """Whether the empty text is a pattern."""
 
 
 def described(form: memoryview) -> tuple[Facts, int]:
@@ -27,8 +29,8 @@ def described(form: memoryview) -> tuple[Facts, int]:
     for size in (12, 8, 4):
         at += 4 + size * _NUMBER.unpack_from(form, at)[0]
     end = at + 4 + _OUTPUT.size * _NUMBER.unpack_from(form, at)[0]
-    longest, greatest = 0, -1
+    longest, greatest, has_empty = 0, -1, False
     for value, length, _parent in _OUTPUT.iter_unpack(form[at + 4 : end]):
-        longest, greatest = max(longest, length), max(greatest, value)
+        longest, greatest, has_empty = max(longest, length), max(greatest, value), has_empty or length == 0
     mark = form[end] if form[end] & 127 in tuple(Kind) else 0
-    return Facts(Kind(mark & 127), mark >= 128, longest), greatest
+    return Facts(Kind(mark & 127), mark >= 128, longest, has_empty), greatest

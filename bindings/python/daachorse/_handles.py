@@ -4,10 +4,12 @@ from __future__ import annotations
 
 import ctypes
 import threading
-from typing import Callable
+from typing import Callable, TypeVar
 
 from ._library import library, need_done
 from ._memory import Memory, Room
+
+_T = TypeVar("_T")
 
 # The matches that the first call of a search has room for.
 FIRST_ROOM = 64
@@ -50,14 +52,14 @@ class Handles:
         finally:
             self._give_back(handle)
 
-    def search(self, export: Callable[..., int], memory: Memory, place: int, size: int) -> list[tuple]:
-        """Returns the first matches in the bytes from a place on, at most so many."""
+    def search(self, export: Callable[..., int], memory: Memory, place: int, size: int, read: Callable[[Room], _T]) -> _T:
+        """Finds the first matches in the bytes from a place on, at most so many, and reads them."""
         handle = self._take()
         try:
             room = handle.room if size <= FIRST_ROOM else Room(size)
             out, _size, written = room.words
             need_done(export(handle.address, memory.at(place), memory.length - place, out, size, written))
-            return list(room.matches())
+            return read(room)
         finally:
             self._give_back(handle)
 

@@ -73,6 +73,7 @@ _EXPORTS = {
     "write": [_HANDLE, *_MEMORY, _SIZE],
     "list": [_HANDLE, *_PATTERNS, _SIZE, _SIZE],
     "read": [_HANDLE, *_MEMORY, _SIZE],
+    "to_characters": [*_MEMORY, *[ctypes.c_size_t] * 3, *_MEMORY],
     "free": [_HANDLE],
 }
 
@@ -92,7 +93,7 @@ def _exports() -> types.SimpleNamespace:
     for name, parameters in _EXPORTS.items():
         export = getattr(loaded, f"daachorse_{name}")
         export.argtypes = parameters
-        export.restype = None if name == "free" else ctypes.c_uint32
+        export.restype = None if name in ("free", "to_characters") else ctypes.c_uint32
         setattr(exports, name, export)
     return exports
 

@@ -6,6 +6,8 @@ import ctypes
 import struct
 from typing import TYPE_CHECKING, Iterator
 
+from ._library import library
+
 if TYPE_CHECKING:
     from _typeshed import ReadableBuffer
 
@@ -18,17 +20,40 @@ class Room:
 
     def __init__(self, size: int):
         self.size = size
-        self._memory = (ctypes.c_char * (_MATCH.size * size))()
+        # One more, for a place that is turned with the matches.
+        self._memory = (ctypes.c_char * (_MATCH.size * (size + 1)))()
         self._written = ctypes.c_size_t()
         # What a search takes.
         self.words = ctypes.addressof(self._memory), size, ctypes.addressof(self._written)
 
+    def is_empty(self) -> bool:
+        return self._written.value == 0
+
     def is_full(self) -> bool:
         return self._written.value == self.size
 
+    def first(self) -> tuple:
+        return _MATCH.unpack_from(self._memory)
+
+    def last(self) -> tuple:
+        return _MATCH.unpack_from(self._memory, self._end() - _MATCH.size)
+
     def matches(self) -> Iterator[tuple]:
         """The matches that were written."""
-        return _MATCH.iter_unpack(memoryview(self._memory)[: _MATCH.size * self._written.value])
+        return _MATCH.iter_unpack(memoryview(self._memory)[: self._end()])
+
+    def to_characters(self, text: int | bytes, length: int, before: int, characters: int, origin: int, place: int) -> int:
+        """Turns the matches' places in bytes into places in characters.
+
+        So many bytes and characters come before the text, and the places count from the origin.
+        Returns how many characters begin before a place, which counts from there too.
+        """
+        _MATCH.pack_into(self._memory, self._end(), place, place, 0)
+        library.to_characters(text, length, before, characters, origin, self.words[0], self._written.value + 1)
+        return _MATCH.unpack_from(self._memory, self._end())[0]
+
+    def _end(self) -> int:
+        return _MATCH.size * self._written.value
 
 
 class Memory:

@@ -6,9 +6,10 @@ Each call of the library finds some matches. The next goes on from where the las
 from __future__ import annotations
 
 from itertools import islice, takewhile
-from typing import Callable, Iterable, Iterator
+from typing import Callable, Iterable, Iterator, NamedTuple
 
 from ._memory import Memory, Room
+from ._places import Places
 from ._stream import Feed
 
 # The matches that a call finds, at most, but for the first calls.
@@ -18,59 +19,71 @@ _ROOM = 1 << 16
 # slower, takes less time than moving places does.
 _DENSE = 12
 
+
+class Found(NamedTuple):
+    """What a call found, from a place on."""
+
+    matches: list[tuple]
+    first: tuple
+    """The first match, with places that count from there, and the last."""
+    last: tuple
+
+    def is_dense(self) -> bool:
+        return self.last[1] < _DENSE * len(self.matches)
+
+
 # Finds the first matches in the bytes from a place on, at most so many.
-Call = Callable[[int, int], "list[tuple]"]
+Call = Callable[[int, int], Found]
 
 
-def is_dense(found: list[tuple]) -> bool:
-    return found[-1][1] < _DENSE * len(found)
+def read_found(places: Places, room: Room, origin: int) -> Found:
+    """Reads the matches that a call wrote, whose places count from an origin."""
+    if room.is_empty():
+        return Found([], (), ())
+    first, last = room.first(), room.last()
+    return Found(list(places.read(room, origin)), first, last)
 
 
-def streamed(feed: Feed, memory: Memory, told: int) -> Iterator[Iterable[tuple]]:
-    """Yields what follows so many matches, by a stream. Its places need not be moved."""
-    room = Room(2 * told)
-    place = feed.consume(memory, 0, room)
-    yield islice(room.matches(), told, None)
-    while room.is_full():
-        room = Room(min(2 * room.size, _ROOM))
+def streamed(feed: Feed, memory: Memory, places: Places, told: int) -> Iterator[Iterable[tuple]]:
+    """Yields what follows so many matches, by a stream."""
+    room, place, is_full = Room(2 * told), 0, True
+    while is_full:
         place += feed.consume(memory, place, room)
-        yield room.matches()
+        yield islice(places.read(room), told, None)
+        is_full = room.is_full()
+        told, room = 0, Room(min(2 * room.size, _ROOM))
 
 
-def apart(call: Call, length: int, found: list[tuple], size: int) -> Iterator[Iterable[tuple]]:
+def apart(call: Call, length: int, found: Found, size: int) -> Iterator[Iterable[tuple]]:
     """Yields what follows the first matches, if these do not overlap.
 
     What follows a match is found behind it, but that an empty one does not follow a nonempty one.
     """
     place = 0
-    while len(found) == size:
-        start, end, _value = found[-1]
+    while len(found.matches) == size:
+        start, end, _value = found.last
         is_empty = start == end
         place += end + is_empty
         if place > length:
             return
         size = min(2 * size, _ROOM)
         found = call(place, size)
-        is_first_none = not is_empty and found[:1] != [] and found[0][1] == 0
-        yield _moved(islice(found, int(is_first_none), None), place)
+        is_first_none = not is_empty and found.matches != [] and found.first[1] == 0
+        yield islice(found.matches, int(is_first_none), None)
 
 
-def overlapping(call: Call, longest: int, found: list[tuple], size: int) -> Iterator[Iterable[tuple]]:
-    """Yields what follows the first matches, by rising ends.
+def overlapping(call: Call, reach: int, found: Found, size: int) -> Iterator[Iterable[tuple]]:
+    """Yields what follows the first matches, by rising ends. None has more bytes than `reach`.
 
-    Those that end after a place are found from the longest pattern before it on.
+    Those that end after a place are found from so far before it on.
     """
     place = told = 0
-    while len(found) == size:
-        last = found[-1][1]
-        here = sum(1 for _ in takewhile(lambda match: match[1] == last, reversed(found)))
-        end, place = place + last, max(place + last - longest, 0)
+    while len(found.matches) == size:
+        end = found.matches[-1][1]
+        here = sum(1 for _ in takewhile(lambda match: match[1] == end, reversed(found.matches)))
+        place = max(place + found.last[1] - reach, 0)
         # At least half of the matches are new.
         size = 2 * size if 2 * told > size else min(2 * size, _ROOM)
         found = call(place, size)
-        told = here + sum(1 for _ in takewhile(lambda match: match[1] + place < end, found))
-        yield _moved(islice(found, told, None), place)
-
-
-def _moved(matches: Iterable[tuple], place: int) -> Iterator[tuple]:
-    return ((start + place, end + place, value) for start, end, value in matches)
+        told = here + sum(1 for _ in takewhile(lambda match: match[1] < end, found.matches))
+        yield islice(found.matches, told, None)

@@ -10,7 +10,8 @@ from ._handles import Handles
 from ._library import library, need_done
 from ._matches import valued
 from ._memory import Memory, Room, memory_of
-from ._texts import CodePoints, Text, encoded
+from ._places import Places, at_characters
+from ._texts import Text, encoded
 
 _ROOM = 1 << 10
 
@@ -33,9 +34,10 @@ class Feed:
 class Stream:
     """A haystack that comes in pieces. It may outlive its automaton, which makes it by `stream`."""
 
-    def __init__(self, feed: Feed, unit: type, code_points: CodePoints, beside: list | None):
+    def __init__(self, feed: Feed, unit: type, places: Places, has_empty: bool, beside: list | None):
         self._lock = threading.Lock()
-        self._feed, self._unit, self._code_points, self._beside = feed, unit, code_points, beside
+        self._feed, self._unit, self._places, self._beside = feed, unit, places, beside
+        self._has_empty = has_empty
 
     def feed(self, piece: Text) -> list[tuple[int, int, Any]]:
         """Returns the matches that end in the next piece, and at first also the empty ones at 0.
@@ -46,12 +48,12 @@ class Stream:
         memory, room, place = memory_of(data), Room(_ROOM), 0
         matches: list[tuple] = []
         with self._lock:
+            self._places.add(data)
             is_full = True
             while is_full:
                 place += self._feed.consume(memory, place, room)
-                matches += room.matches()
+                matches += self._places.read(room)
                 is_full = room.is_full()
-            if self._unit is str:
-                self._code_points.add(data)
-                matches = list(self._code_points.moved(matches))
+        if self._unit is str and self._has_empty:
+            matches = list(at_characters(matches))
         return list(valued(matches, self._beside))

@@ -1,13 +1,12 @@
 """What may be searched: bytes-like objects, with places in bytes, and `str`, in code points.
 
-An automaton over `str` searches its UTF-8. A nonempty match begins and ends at characters. Empty
-matches inside a character are left out, and no other match depends on them.
+An automaton over `str` searches its UTF-8.
 """
 
 from __future__ import annotations
 
 import mmap
-from collections.abc import Iterable, Iterator, Mapping
+from collections.abc import Iterable, Mapping
 from typing import TYPE_CHECKING, Any, Union
 
 if TYPE_CHECKING:
@@ -97,36 +96,3 @@ def read_patterns(patterns: Iterable[Text], unit: type | None) -> tuple[list[byt
             raise TypeError(f"pattern {number} is of the type {name}, and the automaton is over {unit.__name__}")
         texts.append(utf8(pattern) if isinstance(pattern, str) else bytes(memoryview(pattern)))
     return texts, unit or bytes
-
-
-class CodePoints:
-    """Turns places in UTF-8, which may come in pieces, into places in code points."""
-
-    def __init__(self, longest: int):
-        self._longest = longest
-        self._reach = bytearray()  # The bytes that a match may still reach back to.
-        self._behind = 0  # How many bytes came before these.
-        self._place = 0  # A place in bytes, and the same in code points.
-        self._count = 0
-
-    def add(self, piece: ReadableBuffer) -> None:
-        """The next bytes, which begin and end at characters."""
-        self._count += len(self._reach[self._place - self._behind :].decode())
-        self._place = self._behind + len(self._reach)
-        spare = max(len(self._reach) - self._longest, 0)
-        del self._reach[:spare]
-        self._behind += spare
-        self._reach += piece
-
-    def moved(self, matches: Iterable[tuple]) -> Iterator[tuple]:
-        """The matches, by rising ends, in code points, without empty ones inside a character."""
-        reach, behind, count = self._reach, self._behind, self._count
-        at = self._place - behind
-        for start, end, value in matches:
-            start, end = start - behind, end - behind
-            if start == end and end < len(reach) and reach[end] & 0xC0 == 0x80:
-                continue
-            count += len(reach[at:end].decode())
-            at = end
-            yield count - len(reach[start:end].decode()), count, value
-        self._place, self._count = at + behind, count

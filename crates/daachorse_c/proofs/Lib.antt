@@ -1,3 +1,4 @@
+mod CharacterLaws
 mod Crossing
 mod Listed
 mod Registrations

@@ -1,4 +1,5 @@
 pub mod Building
+pub mod Characters
 pub mod Counts
 pub mod Handle
 pub mod Held

@@ -5,7 +5,7 @@
 //! `bindings/c/daachorse.h` states what C has to keep to.
 #![tactic(auto)]
 
-ghost use Rattle.std.specs.Prelude.{◌≡◌, ◌≢◌, ◌↔◌, [], None, Some, IsNone, IsSomeAnd, IsTrue, MatchResult, false, length};
+ghost use Rattle.std.specs.Prelude.{◌≡◌, ◌≢◌, ◌↔◌, [], None, Some, IsNone, IsSomeAnd, IsTrue, MatchResult, false, length, map};
 ghost use Rattle.daachorse_model.specs.Folding.{as_read};
 ghost use Rattle.daachorse_model.specs.Kinds.{byte_of_kind};
 ghost use Rattle.daachorse_model.specs.Matches.{overlapping};
@@ -13,6 +13,7 @@ ghost use Rattle.daachorse_model.specs.Units.{byte_width};
 ghost use Rattle.daachorse_bytewise.specs.Automata.{dictionary_of, kind_of};
 ghost use Rattle.daachorse_c.specs.declared.search.SearchKind.TheVariants.{Find, Leftmost, NoSuffix, Overlapping, Prefixes, Whole};
 ghost use Rattle.daachorse_c.specs.Building.{IsBuildCause, IsBuiltFrom};
+ghost use Rattle.daachorse_c.specs.Characters.{in_characters};
 ghost use Rattle.daachorse_c.specs.Counts.{AreCounts};
 ghost use Rattle.daachorse_c.specs.Listing.{IsListCause, HasListed, arrays};
 ghost use Rattle.daachorse_c.specs.Options.{IsBuiltWithOptions, IsOptionsCause};
@@ -23,6 +24,7 @@ ghost use Rattle.daachorse_c.specs.Written.{IsRead, IsReadCause, IsWhole, IsWrit
 
 use crate::automaton::Searcher;
 use crate::building::build;
+use crate::characters::Cursor;
 use crate::counts::Counts;
 use crate::found::CMatch;
 use crate::handle::Handle;
@@ -34,6 +36,7 @@ use std::alloc::Global;
 
 mod automaton;
 mod building;
+mod characters;
 mod counts;
 mod found;
 mod handle;
@@ -242,6 +245,26 @@ pub extern "C" fn daachorse_version() -> u32
     ensures { result ≡ 50100 }
 {
     50_100
+}
+
+/// Turns the places of matches, in bytes, into places in characters of a text in UTF-8.
+///
+/// The places count from `origin`, and so many bytes and characters come before the text. An empty
+/// match inside a character ends before that character, and starts after it.
+#[unsafe(no_mangle)]
+pub extern "C" fn daachorse_to_characters(
+    text: &[u8],
+    bytes: usize,
+    characters: usize,
+    origin: usize,
+    matches: &mut [CMatch],
+)
+    ensures { matches.new ≡ map (in_characters text.now bytes characters origin) matches.old }
+{
+    let mut cursor = Cursor::new(text);
+    for found in matches.iter_mut() {
+        *found = cursor.moved(*found, bytes, characters, origin);
+    }
 }
 
 /// Writes to `out` the first matches that do not overlap, each ending as early as possible, and

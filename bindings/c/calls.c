@@ -67,12 +67,12 @@ static void see_options(void) {
 
 static void see_counts(void) {
     daachorse handle = DAACHORSE_EMPTY;
-    daachorse_counts counts = {7, 7, 7};
+    daachorse_counts counts = {7, 7, 7, 7};
     size_t size;
     need(daachorse_count(&handle, &counts) == DAACHORSE_EMPTY_HANDLE && counts.patterns == 7, "the counts of nothing", 0);
     build(&handle, (daachorse_options){0});
     need(daachorse_count(&handle, &counts) == DAACHORSE_DONE, "count", 0);
-    need(counts.patterns == 5 && counts.states == 9, "the counts", 0);
+    need(counts.patterns == 5 && counts.states == 9 && counts.longest == 4, "the counts", 0);
     need(daachorse_write(&handle, NULL, 0, &size) == DAACHORSE_NO_ROOM && size == counts.size, "the size", 0);
     build(&handle, (daachorse_options){.kind = DAACHORSE_LEFTMOST_FIRST});
     need(daachorse_count(&handle, &counts) == DAACHORSE_DONE && counts.patterns == 4 && counts.states == 7, "the counts of another kind", 1);
@@ -165,6 +165,34 @@ static void see_nulls(void) {
     daachorse_free(&handle);
 }
 
+/* Where a search goes on, and where it does not. */
+static void see_places(void) {
+    static const struct {
+        uint32_t kind;
+        size_t at, len;
+        uint32_t answer;
+    } rows[] = {
+        {DAACHORSE_LEFTMOST_LONGEST, 0, 0, DAACHORSE_DONE},
+        {DAACHORSE_LEFTMOST_LONGEST, 4, 4, DAACHORSE_DONE},
+        {DAACHORSE_LEFTMOST_FIRST, 5, 4, DAACHORSE_WRONG_PLACE},
+        {DAACHORSE_LEFTMOST_FIRST, SIZE_MAX, 4, DAACHORSE_WRONG_PLACE},
+        {DAACHORSE_STANDARD, 2, 4, DAACHORSE_DONE},
+        {DAACHORSE_STANDARD, 5, 4, DAACHORSE_WRONG_PLACE},
+    };
+    for (size_t i = 0; i < sizeof rows / sizeof *rows; i++) {
+        daachorse handle = DAACHORSE_EMPTY;
+        daachorse_place place = {rows[i].at, false, false};
+        daachorse_match found[ROOM];
+        size_t written = 7;
+        need(daachorse_find_on(&handle, bytes_of("xxxx"), rows[i].len, &place, found, ROOM, &written) == DAACHORSE_EMPTY_HANDLE, "no handle", i);
+        build(&handle, (daachorse_options){.kind = rows[i].kind});
+        uint32_t answer = daachorse_find_on(&handle, bytes_of("xxxx"), rows[i].len, &place, found, ROOM, &written);
+        need(answer == rows[i].answer && written == 0, daachorse_answer_text(answer), i);
+        need(place.at == rows[i].at && place.over == (answer == DAACHORSE_DONE), "the place", i);
+        daachorse_free(&handle);
+    }
+}
+
 /* A handle may be moved, also with a stream. */
 static void see_moves(void) {
     daachorse first = DAACHORSE_EMPTY, second;
@@ -185,6 +213,7 @@ int main(void) {
     see_lookups();
     see_characters();
     see_nulls();
+    see_places();
     see_moves();
     return 0;
 }

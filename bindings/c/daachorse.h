@@ -75,7 +75,8 @@ enum daachorse_answer {
     DAACHORSE_NO_ROOM = 11,          /* the output is longer than the room for it */
     DAACHORSE_NO_STREAM = 12,        /* no stream was begun */
     DAACHORSE_STREAM_TOO_LONG = 13,  /* an offset or the number of matches would pass size_t */
-    DAACHORSE_UNKNOWN_OPTION = 14    /* an option is neither 0 nor 1, or a spare one is not 0 */
+    DAACHORSE_UNKNOWN_OPTION = 14,   /* an option is neither 0 nor 1, or a spare one is not 0 */
+    DAACHORSE_WRONG_PLACE = 15       /* a search would go on behind the haystack */
 };
 
 /* The options of a build. One that is all 0 asks for the standard kind, with a prefilter, and
@@ -92,7 +93,15 @@ typedef struct daachorse_counts {
     size_t patterns; /* where equal ones count each */
     size_t states;   /* one for each prefix of a pattern, the empty one included */
     size_t size;     /* the length of what daachorse_write writes */
+    size_t longest;  /* the bytes of the longest pattern, or 0 if there is none */
 } daachorse_counts;
+
+/* Where daachorse_find_on goes on. One that is all 0 is the beginning. Others come from calls. */
+typedef struct daachorse_place {
+    size_t at;  /* the offset from which it goes on */
+    bool after; /* whether a nonempty match ends there */
+    bool over;  /* whether no match is left */
+} daachorse_place;
 
 /* What an answer means, as text. */
 static inline const char *daachorse_answer_text(uint32_t answer) {
@@ -112,6 +121,7 @@ static inline const char *daachorse_answer_text(uint32_t answer) {
     case DAACHORSE_NO_STREAM: return "no stream was begun";
     case DAACHORSE_STREAM_TOO_LONG: return "an offset or the number of matches would pass 64 bits";
     case DAACHORSE_UNKNOWN_OPTION: return "an option is neither 0 nor 1, or a spare one is not 0";
+    case DAACHORSE_WRONG_PLACE: return "a search would go on behind the haystack";
     default: return "no answer of this library";
     }
 }
@@ -145,8 +155,8 @@ uint32_t daachorse_version(void);
  * Returns DAACHORSE_DONE or, with both unchanged, DAACHORSE_EMPTY_HANDLE. */
 uint32_t daachorse_kind(daachorse *handle, uint32_t *kind, bool *ascii_case_insensitive);
 
-/* Counts what the automaton holds. It walks over all patterns, as daachorse_list does, and writes
- * the automaton to memory that it frees. Returns DAACHORSE_DONE or, with counts unchanged,
+/* Counts what the automaton holds. It walks over all patterns twice, as daachorse_list does once, and
+ * writes the automaton to memory that it frees. Returns DAACHORSE_DONE or, with counts unchanged,
  * DAACHORSE_EMPTY_HANDLE or DAACHORSE_OUT_OF_MEMORY. */
 uint32_t daachorse_count(daachorse *handle, daachorse_counts *counts);
 
@@ -192,6 +202,17 @@ uint32_t daachorse_find_overlapping_no_suffix(daachorse *handle, const uint8_t *
  * kinds. It may read as many bytes behind each match as the longest pattern has, so it takes at
  * most the time of the matches times that length: patterns of strangers may make it slow. */
 uint32_t daachorse_leftmost_find(daachorse *handle, const uint8_t *haystack, size_t haystack_len,
+        daachorse_match *out, size_t out_len, size_t *written);
+
+/* Goes on, where an earlier call left the place, with the search of daachorse_find, or for an
+ * automaton of a leftmost kind with that of daachorse_leftmost_find, and moves the place behind the
+ * last match written. The haystack is the same in all calls. If written is less than out_len, every
+ * match was reported; else call again. The calls together read what one search of the whole reads,
+ * and take a few steps more for each match, whatever out_len is. They allocate nothing. Returns
+ * DAACHORSE_DONE or, with place and out unchanged and 0 in written, DAACHORSE_EMPTY_HANDLE, or
+ * DAACHORSE_WRONG_PLACE if the place is behind the haystack. Overlapping matches go on by a stream
+ * (daachorse_begin). */
+uint32_t daachorse_find_on(daachorse *handle, const uint8_t *haystack, size_t haystack_len, daachorse_place *place,
         daachorse_match *out, size_t out_len, size_t *written);
 
 /* The patterns that are the whole text, in order of registration, and those that begin it, the
@@ -337,6 +358,14 @@ DAACHORSE_SEARCH_IN_C(daachorse_common_prefixes)
 #define daachorse_get daachorse_get_in_c
 #define daachorse_common_prefixes daachorse_common_prefixes_in_c
 
+static inline uint32_t daachorse_find_on_in_c(daachorse *handle, const uint8_t *haystack, size_t haystack_len,
+        daachorse_place *place, daachorse_match *out, size_t out_len, size_t *written) {
+    *written = 0;
+    return daachorse_find_on(handle, (const uint8_t *)daachorse_some(haystack), haystack_len, place,
+            (daachorse_match *)daachorse_room(out), out_len, written);
+}
+#define daachorse_find_on daachorse_find_on_in_c
+
 static inline uint32_t daachorse_is_match_in_c(daachorse *handle, const uint8_t *haystack, size_t haystack_len,
         bool *found) {
     *found = false;
@@ -371,6 +400,57 @@ static inline uint32_t daachorse_read_in_c(daachorse *handle, const uint8_t *byt
     return daachorse_read(handle, (const uint8_t *)daachorse_some(bytes), bytes_len, taken);
 }
 #define daachorse_read daachorse_read_in_c
+
+/* Calls that pass each match to a function of the caller's, in order, until it returns other than 0.
+ * They need no room, and find what the search of that name finds in a haystack of any length. */
+
+/* Gets what the caller passed as context, and a match. Returns 0 to go on. */
+typedef int daachorse_each(void *context, daachorse_match found);
+
+enum { DAACHORSE_EACH_ROOM = 64 };
+
+/* Passes on matches, and returns whether a call asked to stop. */
+static inline bool daachorse_pass(const daachorse_match *found, size_t count, daachorse_each *each, void *context) {
+    for (size_t i = 0; i < count; i++)
+        if (each(context, found[i]) != 0)
+            return true;
+    return false;
+}
+
+/* daachorse_find, or for an automaton of a leftmost kind daachorse_leftmost_find. It allocates
+ * nothing. Returns what daachorse_find_on does. */
+static inline uint32_t daachorse_find_each(daachorse *handle, const uint8_t *haystack, size_t haystack_len,
+        daachorse_each *each, void *context) {
+    daachorse_place place = {0, false, false};
+    daachorse_match found[DAACHORSE_EACH_ROOM];
+    size_t written = DAACHORSE_EACH_ROOM;
+    uint32_t answer = DAACHORSE_DONE;
+    while (answer == DAACHORSE_DONE && written == DAACHORSE_EACH_ROOM) {
+        answer = daachorse_find_on(handle, haystack, haystack_len, &place, found, DAACHORSE_EACH_ROOM, &written);
+        if (daachorse_pass(found, written, each, context))
+            break;
+    }
+    return answer;
+}
+
+/* daachorse_find_overlapping, by a stream of its own: a few words are allocated, and freed. Returns
+ * what daachorse_stream and daachorse_consume do. */
+static inline uint32_t daachorse_find_overlapping_each(daachorse *handle, const uint8_t *haystack, size_t haystack_len,
+        daachorse_each *each, void *context) {
+    daachorse stream = DAACHORSE_EMPTY;
+    daachorse_match found[DAACHORSE_EACH_ROOM];
+    size_t at = 0, taken, written = DAACHORSE_EACH_ROOM;
+    uint32_t answer = daachorse_stream(handle, true, &stream);
+    while (answer == DAACHORSE_DONE && written == DAACHORSE_EACH_ROOM) {
+        const uint8_t *rest = haystack != NULL ? haystack + at : NULL;
+        answer = daachorse_consume(&stream, rest, haystack_len - at, found, DAACHORSE_EACH_ROOM, &taken, &written);
+        at += taken;
+        if (daachorse_pass(found, written, each, context))
+            break;
+    }
+    daachorse_free(&stream);
+    return answer;
+}
 
 #ifdef __cplusplus
 }

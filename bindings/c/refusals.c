@@ -69,7 +69,7 @@ static uint32_t accelerate(daachorse *handle) {
 }
 
 static uint32_t count(daachorse *handle) {
-    daachorse_counts counts = {7, 7, 7};
+    daachorse_counts counts = {7, 7, 7, 7};
     uint32_t answer = daachorse_count(handle, &counts);
     bool done = answer == DAACHORSE_DONE;
     need(counts.patterns == (done ? 4 : 7) && counts.states == (done ? 9 : 7), "the counts");

@@ -76,6 +76,49 @@ static void see_stream(daachorse *handle, bool overlapping, const uint8_t *hayst
     need(told == count, "the number of matches of a stream", row);
 }
 
+/* Finds matches with this room, each call going on from where the last one ended. */
+static void see_going_on(daachorse *handle, const uint8_t *haystack, size_t len, size_t room,
+        const daachorse_match *wanted, size_t count, size_t row) {
+    daachorse_place place = {0, false, false};
+    size_t told = 0, written;
+    do {
+        daachorse_match found[ROOM];
+        need(daachorse_find_on(handle, haystack, len, &place, found, room, &written) == DAACHORSE_DONE, "going on", row);
+        need(written <= room && told + written <= count, "how much a search that goes on did", row);
+        for (size_t i = 0; i < written; i++)
+            need(is_same(found[i], wanted[told + i]), "a match of a search that goes on", row);
+        told += written;
+    } while (written == room);
+    need(told == count, "the number of matches of a search that goes on", row);
+    need(daachorse_find_on(handle, haystack, len, &place, NULL, 0, &written) == DAACHORSE_DONE && written == 0, "the end", row);
+}
+
+/* What calls for each match are still to pass on, and after how many of them they stop. */
+typedef struct {
+    const daachorse_match *wanted;
+    size_t told, stop, row;
+} each_match;
+
+static int see_each(void *context, daachorse_match found) {
+    each_match *each = context;
+    need(each->told < each->stop && is_same(found, each->wanted[each->told]), "a match that is passed on", each->row);
+    each->told++;
+    return each->told == each->stop;
+}
+
+/* Passes each match on, and stops at the first, at the second and so on, or at none. */
+static void see_calls(daachorse *handle, search_fn *search, const uint8_t *haystack, size_t len,
+        const daachorse_match *wanted, size_t count, size_t row) {
+    for (size_t stop = 1; stop <= count + 1; stop++) {
+        each_match each = {wanted, 0, stop, row};
+        uint32_t answer = search == daachorse_find_overlapping
+                ? daachorse_find_overlapping_each(handle, haystack, len, see_each, &each)
+                : daachorse_find_each(handle, haystack, len, see_each, &each);
+        need(answer == DAACHORSE_DONE, "calls for each match", row);
+        need(each.told == (stop < count ? stop : count), "the number of calls", row);
+    }
+}
+
 /* Appends a pattern. */
 static void put(pattern_list *list, const char *text, size_t text_len, uint32_t value) {
     list->size = append(list->bytes, list->size, text, text_len);
@@ -124,6 +167,11 @@ static void see_search(const char *name, uint32_t kind, bool any_case, const pat
             for (size_t piece = 1; piece < 4; piece++)
                 for (size_t room = 1; room < 4; room++)
                     see_stream(&handle, search == daachorse_find_overlapping, haystack, haystack_len, piece, room, wanted, count, row);
+        if (search == daachorse_find || search == daachorse_leftmost_find)
+            for (size_t room = 1; room < 4; room++)
+                see_going_on(&handle, haystack, haystack_len, room, wanted, count, row);
+        if (search != daachorse_find_overlapping_no_suffix)
+            see_calls(&handle, search, haystack, haystack_len, wanted, count, row);
         daachorse_free(&handle);
     }
 }

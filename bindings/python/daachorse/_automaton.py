@@ -12,9 +12,9 @@ from ._handles import FIRST_ROOM, Handles
 from ._library import Kind, Refusal, Refused, library, need_done
 from ._lookups import Words
 from ._matches import Match, valued
-from ._memory import Memory, memory_of
+from ._memory import Memory, Place, memory_of
 from ._places import CodePoints, Places, at_characters
-from ._search import Call, Found, apart, overlapping, read_found, streamed
+from ._search import Found, apart, overlapping, read_found, streamed
 from ._stream import Feed, Stream
 from ._texts import Text, encoded, is_utf8, need_list, need_unit, read_patterns
 
@@ -298,28 +298,31 @@ class Automaton:
         memory, places = memory_of(data), self._places() if in_code_points else Places()
         places.add(data)
 
-        def call(place: int, size: int) -> Found:
-            read = functools.partial(read_found, places, origin=place)
-            return self._handles.search(getattr(library, name), memory, place, size, read)
-
-        found = call(0, size)
-        matches: Iterator[tuple] = iter(found.matches)
-        if len(found.matches) == size:
-            later = self._later(name, call, memory, places, found)
-            matches = itertools.chain(matches, itertools.chain.from_iterable(later))
+        parts = self._parts(name, memory, places, size)
+        # The first call is made here, so that what it refuses is raised here.
+        matches: Iterator[tuple] = itertools.chain(next(parts), itertools.chain.from_iterable(parts))
         if in_code_points and self._facts.has_empty:
             matches = at_characters(matches)
         return valued(matches, self._beside)
 
-    def _later(self, name: str, call: Call, memory: Memory, places: Places, found: Found) -> Iterator[Iterable[tuple]]:
-        """Yields what follows the first matches, in parts."""
-        size, overlaps = len(found.matches), name.startswith("find_overlapping")
-        if name in ("find", "find_overlapping") and found.is_dense():
-            yield from streamed(Feed(self._handles, overlaps), memory, places, size)
-        elif overlaps:
-            yield from overlapping(call, self._reach(), found, size)
+    def _parts(self, name: str, memory: Memory, places: Places, size: int) -> Iterator[Iterable[tuple]]:
+        """Yields the matches of a search in parts, of which the first has room for so many."""
+        read = functools.partial(read_found, places)
+        if not name.startswith("find_overlapping"):
+            place = Place()
+            yield from apart(lambda size: self._handles.find_on(memory, place, size, read), size)
+            return
+
+        def call(place: int, size: int) -> Found:
+            read_there = functools.partial(read, origin=place)
+            return self._handles.search(getattr(library, name), memory, place, size, read_there)
+
+        found = call(0, size)
+        yield found.matches
+        if len(found.matches) == size and name == "find_overlapping" and found.is_dense():
+            yield from streamed(Feed(self._handles, True), memory, places, size)
         else:
-            yield from apart(call, memory.length, found, size)
+            yield from overlapping(call, self._reach(), found, size)
 
     def _places(self) -> Places:
         return CodePoints(self._reach()) if self._unit is str else Places()

@@ -7,7 +7,7 @@ import threading
 from typing import Callable, TypeVar
 
 from ._library import library, need_done
-from ._memory import Memory, Room
+from ._memory import Memory, Place, Room
 
 _T = TypeVar("_T")
 
@@ -54,11 +54,18 @@ class Handles:
 
     def search(self, export: Callable[..., int], memory: Memory, place: int, size: int, read: Callable[[Room], _T]) -> _T:
         """Finds the first matches in the bytes from a place on, at most so many, and reads them."""
+        return self._found(export, (memory.at(place), memory.length - place), size, read)
+
+    def find_on(self, memory: Memory, place: Place, size: int, read: Callable[[Room], _T]) -> _T:
+        """Finds the next matches that do not overlap, at most so many, moves the place, and reads them."""
+        return self._found(library.find_on, (memory.at(0), memory.length, ctypes.addressof(place)), size, read)
+
+    def _found(self, export: Callable[..., int], arguments: tuple, size: int, read: Callable[[Room], _T]) -> _T:
         handle = self._take()
         try:
             room = handle.room if size <= FIRST_ROOM else Room(size)
             out, _size, written = room.words
-            need_done(export(handle.address, memory.at(place), memory.length - place, out, size, written))
+            need_done(export(handle.address, *arguments, out, size, written))
             return read(room)
         finally:
             self._give_back(handle)

@@ -33,6 +33,7 @@ class Refusal(enum.IntEnum):
     NO_STREAM = 12
     STREAM_TOO_LONG = 13
     UNKNOWN_OPTION = 14
+    WRONG_PLACE = 15
 
 
 _SENTENCES = {
@@ -63,10 +64,9 @@ _EXPORTS = {
     "build": [_HANDLE, ctypes.c_uint32, ctypes.c_bool, ctypes.c_bool, *_PATTERNS],
     "share": [_HANDLE, _HANDLE],
     "accelerate": [_HANDLE, _HANDLE],
-    "find": _SEARCH,
+    "find_on": [_HANDLE, *_MEMORY, ctypes.c_void_p, *_MEMORY, _SIZE],
     "find_overlapping": _SEARCH,
     "find_overlapping_no_suffix": _SEARCH,
-    "leftmost_find": _SEARCH,
     "is_match": [_HANDLE, *_MEMORY, _FOUND],
     "begin": [_HANDLE, ctypes.c_bool],
     "consume": [_HANDLE, *_MEMORY, *_MEMORY, _SIZE, _SIZE],

@@ -32,9 +32,6 @@ class Room:
     def is_full(self) -> bool:
         return self._written.value == self.size
 
-    def first(self) -> tuple:
-        return _MATCH.unpack_from(self._memory)
-
     def last(self) -> tuple:
         return _MATCH.unpack_from(self._memory, self._end() - _MATCH.size)
 
@@ -54,6 +51,12 @@ class Room:
 
     def _end(self) -> int:
         return _MATCH.size * self._written.value
+
+
+class Place(ctypes.Structure):
+    """Where a search goes on, at first at the beginning."""
+
+    _fields_ = [("at", ctypes.c_size_t), ("after", ctypes.c_bool), ("over", ctypes.c_bool)]
 
 
 class Memory:

@@ -24,24 +24,21 @@ class Found(NamedTuple):
     """What a call found, from a place on."""
 
     matches: list[tuple]
-    first: tuple
-    """The first match, with places that count from there, and the last."""
-    last: tuple
+    end: int
+    """Where the last match ends, counted from there in bytes."""
 
     def is_dense(self) -> bool:
-        return self.last[1] < _DENSE * len(self.matches)
+        return self.end < _DENSE * len(self.matches)
 
 
 # Finds the first matches in the bytes from a place on, at most so many.
 Call = Callable[[int, int], Found]
 
 
-def read_found(places: Places, room: Room, origin: int) -> Found:
+def read_found(places: Places, room: Room, origin: int = 0) -> Found:
     """Reads the matches that a call wrote, whose places count from an origin."""
-    if room.is_empty():
-        return Found([], (), ())
-    first, last = room.first(), room.last()
-    return Found(list(places.read(room, origin)), first, last)
+    end = 0 if room.is_empty() else room.last()[1]
+    return Found(list(places.read(room, origin)), end)
 
 
 def streamed(feed: Feed, memory: Memory, places: Places, told: int) -> Iterator[Iterable[tuple]]:
@@ -54,22 +51,14 @@ def streamed(feed: Feed, memory: Memory, places: Places, told: int) -> Iterator[
         told, room = 0, Room(min(2 * room.size, _ROOM))
 
 
-def apart(call: Call, length: int, found: Found, size: int) -> Iterator[Iterable[tuple]]:
-    """Yields what follows the first matches, if these do not overlap.
-
-    What follows a match is found behind it, but that an empty one does not follow a nonempty one.
-    """
-    place = 0
+def apart(call: Callable[[int], Found], size: int) -> Iterator[list[tuple]]:
+    """Yields matches that do not overlap, at first so many. Each call finds the next ones."""
+    found = call(size)
+    yield found.matches
     while len(found.matches) == size:
-        start, end, _value = found.last
-        is_empty = start == end
-        place += end + is_empty
-        if place > length:
-            return
         size = min(2 * size, _ROOM)
-        found = call(place, size)
-        is_first_none = not is_empty and found.matches != [] and found.first[1] == 0
-        yield islice(found.matches, int(is_first_none), None)
+        found = call(size)
+        yield found.matches
 
 
 def overlapping(call: Call, reach: int, found: Found, size: int) -> Iterator[Iterable[tuple]]:
@@ -81,7 +70,7 @@ def overlapping(call: Call, reach: int, found: Found, size: int) -> Iterator[Ite
     while len(found.matches) == size:
         end = found.matches[-1][1]
         here = sum(1 for _ in takewhile(lambda match: match[1] == end, reversed(found.matches)))
-        place = max(place + found.last[1] - reach, 0)
+        place = max(place + found.end - reach, 0)
         # At least half of the matches are new.
         size = 2 * size if 2 * told > size else min(2 * size, _ROOM)
         found = call(place, size)

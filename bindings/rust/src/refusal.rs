@@ -34,10 +34,12 @@ pub enum Refusal {
     StreamTooLong = 13,
     /// An option of a build has no such value. This crate passes none such.
     UnknownOption = 14,
+    /// A search would go on behind the haystack. This crate asks for none such.
+    WrongPlace = 15,
 }
 
 impl Refusal {
-    const ALL: [Refusal; 14] = [
+    const ALL: [Refusal; 15] = [
         Refusal::OutOfMemory,
         Refusal::EmptyHandle,
         Refusal::UnknownKind,
@@ -52,6 +54,7 @@ impl Refusal {
         Refusal::NoStream,
         Refusal::StreamTooLong,
         Refusal::UnknownOption,
+        Refusal::WrongPlace,
     ];
 }
 
@@ -72,6 +75,7 @@ impl fmt::Display for Refusal {
             Refusal::NoStream => "no stream was begun",
             Refusal::StreamTooLong => "an offset or the number of matches would pass 64 bits",
             Refusal::UnknownOption => "an option is neither 0 nor 1, or a spare one is not 0",
+            Refusal::WrongPlace => "a search would go on behind the haystack",
         })
     }
 }

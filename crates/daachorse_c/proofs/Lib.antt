@@ -1,8 +1,12 @@
 mod CharacterLaws
 mod Crossing
+mod LeftmostOn
 mod Listed
+mod Places
 mod Registrations
+mod StandardOn
 mod Telling
+mod Told
 mod Values
 mod Writing
 pub mod Asked

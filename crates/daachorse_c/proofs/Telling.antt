@@ -13,6 +13,7 @@ use Rattle.daachorse_search.proofs.ScanLaws.{at_each_end-split, past_each_end-ap
 use Rattle.daachorse_c.specs.declared.found.CMatch.{CMatch}
 use Rattle.daachorse_c.specs.Streams.{ending_with, found_in}
 use Rattle.daachorse_c.specs.Writes.{Writes, c_match}
+use Rattle.daachorse_c.proofs.Told.{Told}
 
 -- a byte is read as one byte
 abbrev unit_as_read : Bool → ℕ → ℕ
@@ -39,22 +40,6 @@ module _ (K : Dictionary ℕ) where
       ∙ ap (λ l. f [] ++ l) (past_each_end-append f [] h (u ∷ []))
       ∙ sym (append_assoc (f []) (past_each_end f [] h) (f (h ++ u ∷ [])))
       ∙ ap (λ l. l ++ f (h ++ u ∷ [])) (sym (at_each_end-split f [] h) ∙ sym (found-each all h))
-
--- n of all matches were written to what was there, and these are left
-pub record Told (all rest : List (Match ℕ)) (old new : List CMatch) (n : ℕ) : Type 0 where
-  pub room : n ≤ length old
-  pub there : n ≤ length all
-  pub left : drop n all ≡ rest
-  pub wrote : new ≡ map c_match (take n all) ++ drop n old
-
--- nothing is left unless there is no more room
-pub Writes-from_told : {all left : List (Match ℕ)} {old new : List CMatch} {n : ℕ} → Told all left old new n → (n < length old → left ≡ []) → Writes all old new n
-Writes-from_told {all} {left} {old} {new} {n} t whole = record {
-  room = t.room;
-  there = t.there;
-  whole = λ lt. let long = length-drop n all in let none = ap length (t.left ∙ whole lt) in omega (arith, long, none, t.there);
-  wrote = t.wrote;
-}
 
 -- all that was there to write was written, and behind it is written of what comes next
 pub told-more : (all more : List (Match ℕ)) (old new last : List CMatch) (n k : ℕ) → Told all [] old new n → Writes more (drop n new) last k → Told (all ++ more) (drop k more) old (take n new ++ last) (n + k)

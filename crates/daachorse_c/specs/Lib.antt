@@ -6,6 +6,7 @@ pub mod Held
 pub mod Listing
 pub mod Options
 pub mod Patterns
+pub mod Places
 pub mod Refusals
 pub mod Searches
 pub mod Streaming

@@ -12,6 +12,7 @@ ghost use Rattle.daachorse_c.specs.declared.refusal.Refusal.TheVariants.{OutOfMe
 ghost use Rattle.daachorse_c.specs.Counts.{AreCounts};
 ghost use Rattle.daachorse_c.specs.Held.{automaton_of};
 ghost use Rattle.daachorse_c.specs.Listing.{IsNotListed, HasListed, arrays};
+ghost use Rattle.daachorse_c.specs.Places.{GoesOn, IsStuckCause};
 ghost use Rattle.daachorse_c.specs.Searches.{ServesKind, found_by};
 ghost use Rattle.daachorse_c.specs.Streaming.{HasBegun, HasConsumed, IsIdleCause};
 ghost use Rattle.daachorse_c.specs.Writes.{Writes};
@@ -20,6 +21,7 @@ ghost use Rattle.daachorse_c.specs.Written.{IsNotWritten, IsWhole, StandsInFront
 use crate::counts::Counts;
 use crate::found::CMatch;
 use crate::listing::{Listing, Room};
+use crate::place::Place;
 use crate::refusal::Refusal;
 use crate::room::{copy_to_front, put_in_front};
 use crate::search::SearchKind;
@@ -99,6 +101,7 @@ impl Searcher {
             patterns: automaton.num_patterns(alloc)?,
             states: automaton.num_states(),
             size: automaton.serialize(alloc)?.len(),
+            longest: automaton.max_pattern_len(alloc)?,
         })
     }
 
@@ -142,6 +145,24 @@ impl Searcher {
             return Err(Refusal::WrongKind);
         }
         Ok(self.searches.find(search, haystack, out))
+    }
+
+    /// Writes the matches from the place on that do not overlap, as many as there is room for, and
+    /// returns their number. Moves the place behind the last one. Fails if it is behind the haystack.
+    pub(crate) fn find_on(
+        &self,
+        haystack: &[u8],
+        place: &mut Place,
+        out: &mut [CMatch],
+    ) -> Result<usize, Refusal>
+        ensures found { IfOk result (GoesOn self.now.searches haystack.now place.old place.new out.old out.new) }
+        ensures err { IfErr result (IsStuckCause (length haystack.now) place.old) }
+        ensures unchanged { IfErr result (λ _. (place.new ≡ place.old) × (out.new ≡ out.old)) }
+    {
+        if place.at > haystack.len() {
+            return Err(Refusal::WrongPlace);
+        }
+        Ok(self.searches.find_on(haystack, place, out))
     }
 
     /// Returns whether some pattern occurs.

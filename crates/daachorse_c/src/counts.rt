@@ -10,4 +10,6 @@ pub struct Counts {
     pub states: usize,
     /// The number of bytes of the written form.
     pub size: usize,
+    /// The number of bytes of the longest pattern, or 0 if there is none.
+    pub longest: usize,
 }

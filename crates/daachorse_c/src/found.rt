@@ -3,7 +3,7 @@
 ghost use Rattle.std.specs.Prelude.{◌≡◌, ℕ, List, length};
 ghost use Rattle.std.specs.Iterator.{AlwaysYields, IsFinite};
 ghost use Rattle.daachorse_model.specs.declared.Match.{Match};
-ghost use Rattle.daachorse_c.specs.Writes.{Writes};
+ghost use Rattle.daachorse_c.specs.Writes.{Writes, c_match};
 
 use daachorse::Match;
 
@@ -19,6 +19,20 @@ pub struct CMatch {
     pub value: u32,
 }
 
+impl CMatch {
+    /// The match in C's layout.
+    #[inline(always)]
+    pub(crate) fn of(found: Match<u32>) -> CMatch
+        ensures { result ≡ c_match found }
+    {
+        CMatch {
+            start: found.start,
+            end: found.end,
+            value: found.value,
+        }
+    }
+}
+
 /// Writes the first matches, as many as there is room for, and returns their number.
 #[inline(always)]
 pub(crate) fn fill<I: Iterator<Item = Match<u32>> + Drop>(matches: I, out: &mut [CMatch]) -> usize
@@ -32,11 +46,7 @@ pub(crate) fn fill<I: Iterator<Item = Match<u32>> + Drop>(matches: I, out: &mut 
         if written == out.len() {
             return written;
         }
-        out[written] = CMatch {
-            start: found.start,
-            end: found.end,
-            value: found.value,
-        };
+        out[written] = CMatch::of(found);
         written += 1;
     }
     written

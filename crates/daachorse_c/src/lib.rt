@@ -17,6 +17,7 @@ ghost use Rattle.daachorse_c.specs.Characters.{in_characters};
 ghost use Rattle.daachorse_c.specs.Counts.{AreCounts};
 ghost use Rattle.daachorse_c.specs.Listing.{IsListCause, HasListed, arrays};
 ghost use Rattle.daachorse_c.specs.Options.{IsBuiltWithOptions, IsOptionsCause};
+ghost use Rattle.daachorse_c.specs.Places.{IsGoingOn};
 ghost use Rattle.daachorse_c.specs.Refusals.{IsDoneOr, refusal_number};
 ghost use Rattle.daachorse_c.specs.Searches.{IsSearchOf, IsShareCause, IsUseCause};
 ghost use Rattle.daachorse_c.specs.Streaming.{HasBegun, IsBeginCause, IsConsumption};
@@ -29,6 +30,7 @@ use crate::counts::Counts;
 use crate::found::CMatch;
 use crate::handle::Handle;
 use crate::options::Options;
+use crate::place::Place;
 use crate::reading::read;
 use crate::refusal::Refusal;
 use crate::search::SearchKind;
@@ -39,11 +41,13 @@ mod building;
 mod characters;
 mod counts;
 mod found;
+mod going_on;
 mod handle;
 mod listing;
 mod loose;
 mod options;
 mod patterns;
+mod place;
 mod reading;
 mod refusal;
 mod room;
@@ -212,7 +216,8 @@ pub extern "C" fn daachorse_kind(
     DONE
 }
 
-/// Counts the patterns and states of the automaton, and the bytes of its written form.
+/// Counts the patterns and states of the automaton, and the bytes of its longest pattern and of its
+/// written form.
 ///
 /// # Errors
 ///
@@ -335,6 +340,40 @@ pub extern "C" fn daachorse_leftmost_find(
     ensures { IsSearchOf Leftmost haystack.now handle.old.automaton handle.new.automaton out.old out.new written.new result }
 {
     write_found(alloc, handle, SearchKind::Leftmost, haystack, out, written)
+}
+
+/// Goes on from the place with the search of [`daachorse_leftmost_find`], or for a standard
+/// automaton with that of [`daachorse_find`]. Moves the place behind the last match written, or over
+/// the haystack's end if no match is left. A place that is all 0 is the beginning.
+///
+/// # Errors
+///
+/// The numbers of [`Refusal::EmptyHandle`], and of `WrongPlace` if the place is behind the haystack.
+/// Nothing changes then, and `written` is 0.
+#[unsafe(no_mangle)]
+pub extern "C" fn daachorse_find_on(
+    alloc: Global,
+    handle: &mut Handle,
+    haystack: &[u8],
+    place: &mut Place,
+    out: &mut [CMatch],
+    written: &mut usize,
+) -> u32
+    ensures { IsGoingOn haystack.now handle.old.automaton handle.new.automaton place.old place.new out.old out.new written.new result }
+{
+    *written = 0;
+    let Some(automaton) = handle.take(alloc) else {
+        return Refusal::EmptyHandle.number();
+    };
+    let answer = automaton.find_on(haystack, place, out);
+    handle.put(automaton);
+    match answer {
+        Ok(count) => {
+            *written = count;
+            DONE
+        }
+        Err(refusal) => refusal.number(),
+    }
 }
 
 /// Finds the patterns that are the whole text, in order of registration. Otherwise like

@@ -38,6 +38,8 @@ pub enum Refusal {
     StreamTooLong,
     /// An option is neither 0 nor 1, or one without a name is not 0.
     UnknownOption,
+    /// The place from which a search goes on is behind the haystack.
+    WrongPlace,
 }
 
 impl Refusal {
@@ -61,6 +63,7 @@ impl Refusal {
             Refusal::NoStream => 12,
             Refusal::StreamTooLong => 13,
             Refusal::UnknownOption => 14,
+            Refusal::WrongPlace => 15,
         }
     }
 }

@@ -8,7 +8,8 @@ use Rattle.daachorse_bytewise.specs.Automata.{dictionary_of}
 use Rattle.daachorse_bytewise_states.specs.Parts.{content}
 use Rattle.daachorse_c.specs.Streams.{ending_with, found_in, overlaps, overlaps_in, read_by, read_in, states_in}
 use Rattle.daachorse_c.specs.Writes.{Writes}
-use Rattle.daachorse_c.proofs.Telling.{Told, Writes-from_told, still_before, told-next, told_whole}
+use Rattle.daachorse_c.proofs.Telling.{still_before, told-next, told_whole}
+use Rattle.daachorse_c.proofs.Told.{Told, Writes-from_told}
 use Rattle.daachorse_c.proofs.stream.Stream.consume.Goals as goal
 use Rattle.daachorse_c.proofs.stream.Stream.consume.Goals.{then-loop-written-test+else-taken-bytes, else-loop-written-test}
 

@@ -3,7 +3,7 @@ use Rattle.std.proofs.Common.{◌≡◌, ◌+◌, ◌-◌, ◌<◌, ◌≤◌, �
 use Rattle.daachorse_model.specs.Folding.{as_read}
 use Rattle.daachorse_bytewise.specs.Automata.{dictionary_of, states_of}
 use Rattle.daachorse_c.specs.Streams.{ending_with, folds_in, found_in, overlaps, overlaps_in, read_by, read_in, states_in}
-use Rattle.daachorse_c.proofs.Telling.{Told}
+use Rattle.daachorse_c.proofs.Told.{Told}
 use Rattle.daachorse_c.proofs.stream.Stream.consume.Given as goal
 
 abbrev pub invariant-loop-written : goal.invariant-loop-written

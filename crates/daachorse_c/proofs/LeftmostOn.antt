@@ -1,0 +1,231 @@
+-- Where a leftmost search goes on behind a match, and what it finds that begins there.
+use Rattle.std.proofs.Common.{◌≡◌, ℕ, zero, suc, ◌+◌, ◌<◌, ◌≤◌, Bool, true, false, cond, List, [], ◌∷◌, ◌++◌, map, drop, length, Option, Some, None, refl, sym, ap, ◌∙◌, length-append, arith}
+use Rattle.std.specs.Prelude.{option_map, slice_get}
+use Rattle.std.proofs.lemmas.List.{map-append}
+use Rattle.daachorse_model.specs.declared.Match.{Match}
+use Rattle.daachorse_model.specs.Units.{byte_width, size}
+use Rattle.daachorse_model.specs.Dictionary.{Dictionary}
+use Rattle.daachorse_model.specs.Leftmost.{key_with_value, longest_key, match_at, units_to_skip, is_after, leftmost_from}
+use Rattle.daachorse_model.proofs.Lists.{none_either}
+use Rattle.daachorse_model.proofs.Overlap.{Begins, longest_key-begins}
+use Rattle.daachorse_model.proofs.Searches.{key_with_value-none, leftmost_from-skip}
+use Rattle.daachorse_model.proofs.Suffixes.{size-bytes}
+use Rattle.daachorse_search.specs.Afresh.{shifted}
+
+heads : {V : Type 0} (x m : Match V) (xs ms : List (Match V)) → x ∷ xs ≡ m ∷ ms → x ≡ m
+heads x m xs ms e = cc
+
+tails : {V : Type 0} (x m : Match V) (xs ms : List (Match V)) → x ∷ xs ≡ m ∷ ms → xs ≡ ms
+tails x m xs ms e = cc
+
+no_key : {V : Type 0} (t : List ℕ) (vs : List V) → option_map {U = List ℕ × V} (λ v. (t, v)) (slice_get vs 0) ≡ None → vs ≡ []
+no_key t [] e = refl
+no_key t (v ∷ vs) e = cc
+
+no_match : {V : Type 0} (m : Match V) (ms : List (Match V)) → [] ≡ m ∷ ms → ⊥
+no_match m ms e = cc
+
+dropped : (p b : List ℕ) → drop (length p) (p ++ b) ≡ b
+dropped [] b = refl
+dropped (c ∷ p) b = dropped p b
+
+-- from s on m is found first, and then these: where it ends, and what follows there
+pub record Behind {V : Type 0} (K : Dictionary V) (s : ℕ) (w : List ℕ) (m : Match V) (ms : List (Match V)) : Type 0 where
+  pub passed : ℕ
+  pub starts : s ≤ m.start
+  pub order : m.start ≤ m.end
+  pub end : m.end ≡ s + passed
+  pub within : passed ≤ length w
+  pub nonempty : m.start < m.end → ms ≡ leftmost_from byte_width K m.end 0 true (drop passed w)
+  pub empty : m.end ≤ m.start → passed < length w → ms ≡ leftmost_from byte_width K (m.end + 1) 0 false (drop (passed + 1) w)
+  pub last : m.end ≤ m.start → passed ≡ length w → ms ≡ []
+
+module _ {V : Type 0} (K : Dictionary V) where
+  -- what is found at s, and then behind it
+  abbrev here : ℕ → Bool → List ℕ → Option (List ℕ × V) → List (Match V)
+  here s after w best = match_at byte_width s after best ++ leftmost_from byte_width K (s + 1) (units_to_skip best) (is_after after best) w
+
+  -- ---- further on
+
+  match_shifted : (b s : ℕ) (after : Bool) (best : Option (List ℕ × V)) → match_at byte_width (b + s) after best ≡ map (shifted b) (match_at byte_width s after best)
+  match_shifted b s after None = refl
+  match_shifted b s true (Some ([], v)) = refl
+  match_shifted b s false (Some ([], v)) = refl
+  match_shifted b s after (Some (c ∷ p, v)) =
+      let far : (b + s) + size byte_width (c ∷ p) ≡ b + (s + size byte_width (c ∷ p)) = omega arith in
+      ap (λ n. record { start = b + s; end = n; value = v } ∷ []) far
+
+  pub leftmost-shifted : (b s k : ℕ) (after : Bool) (w : List ℕ) → leftmost_from byte_width K (b + s) k after w ≡ map (shifted b) (leftmost_from byte_width K s k after w)
+  leftmost-shifted b s (suc k) after [] = refl
+  leftmost-shifted b s (suc k) after (u ∷ w) =
+      let far : (b + s) + 1 ≡ b + (s + 1) = omega arith in
+      ap (λ n. leftmost_from byte_width K n k after w) far ∙ leftmost-shifted b (s + 1) k after w
+  leftmost-shifted b s zero after [] = match_shifted b s after (longest_key K [] [])
+  leftmost-shifted b s zero after (u ∷ w) =
+      let best = longest_key K [] (u ∷ w) in
+      let far : (b + s) + 1 ≡ b + (s + 1) = omega arith in
+      ap (λ l. l ++ leftmost_from byte_width K ((b + s) + 1) (units_to_skip best) (is_after after best) w) (match_shifted b s after best)
+      ∙ ap (λ n. map (shifted b) (match_at byte_width s after best) ++ leftmost_from byte_width K n (units_to_skip best) (is_after after best) w) far
+      ∙ ap (λ l. map (shifted b) (match_at byte_width s after best) ++ l) (leftmost-shifted b (s + 1) (units_to_skip best) (is_after after best) w)
+      ∙ sym (map-append (shifted b) (match_at byte_width s after best) (leftmost_from byte_width K (s + 1) (units_to_skip best) (is_after after best) w))
+
+  -- ---- behind a match
+
+  behind_last : (s : ℕ) (after : Bool) (o : Option (List ℕ × V)) (m : Match V) (ms : List (Match V)) → ((k : List ℕ × V) → o ≡ Some k → Begins K [] [] k)
+      → match_at byte_width s after o ≡ m ∷ ms → Behind K s [] m ms
+  behind_last s after None m ms begins e = absurd (no_match m ms e)
+  behind_last s true (Some ([], v)) m ms begins e = absurd (no_match m ms e)
+  behind_last s false (Some ([], v)) m ms begins e =
+      let same = heads (record { start = s; end = s; value = v }) m [] ms e in
+      let start = ap (λ (x : Match V). x.start) same in
+      let end = ap (λ (x : Match V). x.end) same in
+      record {
+        passed = 0;
+        starts = omega (arith, start);
+        order = omega (arith, start, end);
+        end = omega (arith, end);
+        within = omega arith;
+        nonempty = λ lt. absurd (omega (arith, start, end, lt));
+        empty = λ le lt. absurd (omega (arith, lt));
+        last = λ le is. sym (tails (record { start = s; end = s; value = v }) m [] ms e);
+      }
+  behind_last s after (Some (c ∷ p, v)) m ms begins e =
+      let b = begins (c ∷ p, v) refl in
+      absurd (omega (arith, ap length b.key, ap length b.splits, length-append b.more b.rest))
+
+  behind-more : (s u : ℕ) (w : List ℕ) (m : Match V) (ms : List (Match V)) → Behind K (s + 1) w m ms → Behind K s (u ∷ w) m ms
+  behind-more s u w m ms b = record {
+    passed = suc b.passed;
+    starts = omega (arith, b.starts);
+    order = b.order;
+    end = omega (arith, b.end);
+    within = omega (arith, b.within);
+    nonempty = b.nonempty;
+    empty = λ le lt. b.empty le (omega (arith, lt)) ∙ ap (λ n. leftmost_from byte_width K (m.end + 1) 0 false (drop n (u ∷ w))) (more b.passed);
+    last = λ le is. b.last le (omega (arith, is));
+  }
+    where
+      more : (n : ℕ) → suc (n + 1) ≡ suc n + 1
+      more n = omega arith
+
+  behind_by : (s u : ℕ) (after : Bool) (w : List ℕ) (o : Option (List ℕ × V)) (m : Match V) (ms : List (Match V)) → ((k : List ℕ × V) → o ≡ Some k → Begins K [] (u ∷ w) k)
+      → ((a : Bool) → leftmost_from byte_width K (s + 1) 0 a w ≡ m ∷ ms → Behind K (s + 1) w m ms) → here s after w o ≡ m ∷ ms → Behind K s (u ∷ w) m ms
+  behind_by s u after w None m ms begins on e = behind-more s u w m ms (on after e)
+  behind_by s u true w (Some ([], v)) m ms begins on e = behind-more s u w m ms (on false e)
+  behind_by s u false w (Some ([], v)) m ms begins on e =
+      let first : Match V = record { start = s; end = s; value = v } in
+      let same = heads first m (leftmost_from byte_width K (s + 1) 0 false w) ms e in
+      let start = ap (λ (x : Match V). x.start) same in
+      let end = ap (λ (x : Match V). x.end) same in
+      record {
+        passed = 0;
+        starts = omega (arith, start);
+        order = omega (arith, start, end);
+        end = omega (arith, end);
+        within = omega arith;
+        nonempty = λ lt. absurd (omega (arith, start, end, lt));
+        empty = λ le lt. sym (tails first m (leftmost_from byte_width K (s + 1) 0 false w) ms e) ∙ ap (λ n. leftmost_from byte_width K (n + 1) 0 false w) end;
+        last = λ le is. absurd (omega (arith, is));
+      }
+  behind_by s u after w (Some (c ∷ p, v)) m ms begins on e =
+      let b = begins (c ∷ p, v) refl in
+      let whole : u ∷ w ≡ c ∷ (p ++ b.rest) = b.splits ∙ ap (λ r. r ++ b.rest) (sym b.key) in
+      let others : w ≡ p ++ b.rest = cc in
+      let first : Match V = record { start = s; end = s + size byte_width (c ∷ p); value = v } in
+      let rest = leftmost_from byte_width K (s + 1) (length p) true w in
+      let same = heads first m rest ms e in
+      let start = ap (λ (x : Match V). x.start) same in
+      let end = ap (λ (x : Match V). x.end) same in
+      let long = size-bytes (c ∷ p) in
+      let far : (s + 1) + size byte_width p ≡ s + size byte_width (c ∷ p) = omega arith in
+      let skips : rest ≡ leftmost_from byte_width K (s + size byte_width (c ∷ p)) 0 true b.rest =
+      ap (λ x. leftmost_from byte_width K (s + 1) (length p) true x) others
+      ∙ leftmost_from-skip byte_width K (s + 1) (length p) 0 true p b.rest (omega arith)
+      ∙ ap (λ n. leftmost_from byte_width K n 0 true b.rest) far in
+      let left : drop (length p) w ≡ b.rest = ap (drop (length p)) others ∙ dropped p b.rest in
+      record {
+        passed = suc (length p);
+        starts = omega (arith, start);
+        order = omega (arith, start, end);
+        end = omega (arith, end, long);
+        within = omega (arith, ap length others, length-append p b.rest);
+        nonempty = λ lt.
+            sym (tails first m rest ms e) ∙ skips ∙ ap (λ n. leftmost_from byte_width K n 0 true b.rest) end
+            ∙ ap (λ x. leftmost_from byte_width K m.end 0 true x) (sym left);
+        empty = λ le lt. absurd (omega (arith, start, end, long, le));
+        last = λ le is. absurd (omega (arith, start, end, long, le));
+      }
+
+  pub behind : (s : ℕ) (after : Bool) (w : List ℕ) (m : Match V) (ms : List (Match V)) → leftmost_from byte_width K s 0 after w ≡ m ∷ ms → Behind K s w m ms
+  behind s after [] m ms e = behind_last s after (longest_key K [] []) m ms (longest_key-begins K [] []) e
+  behind s after (u ∷ w) m ms e = behind_by s u after w (longest_key K [] (u ∷ w)) m ms (longest_key-begins K [] (u ∷ w)) (λ a. behind (s + 1) a w m ms) e
+
+  -- ---- right behind a nonempty match
+
+  no_empty : (o : Option (List ℕ × V)) (u : ℕ) (w : List ℕ) (v : V) → K [] ≡ [] → ((k : List ℕ × V) → o ≡ Some k → Begins K [] (u ∷ w) k) → o ≡ Some ([], v) → ⊥
+  no_empty o u w v none begins is = let b = begins ([], v) is in let no : [] ≡ v ∷ b.others = sym none ∙ b.first in omega (arith, ap length no)
+
+  without_empty_by : (s u : ℕ) (w : List ℕ) (o : Option (List ℕ × V)) → K [] ≡ [] → ((k : List ℕ × V) → o ≡ Some k → Begins K [] (u ∷ w) k)
+      → leftmost_from byte_width K (s + 1) 0 true w ≡ leftmost_from byte_width K (s + 1) 0 false w → here s true w o ≡ here s false w o
+  without_empty_by s u w None none begins on = on
+  without_empty_by s u w (Some ([], v)) none begins on = absurd (no_empty (Some ([], v)) u w v none begins refl)
+  without_empty_by s u w (Some (c ∷ p, v)) none begins on = refl
+
+  without_empty : (s : ℕ) (w : List ℕ) → K [] ≡ [] → leftmost_from byte_width K s 0 true w ≡ leftmost_from byte_width K s 0 false w
+  without_empty s [] none = ap (match_at byte_width s true) (key_with_value-none K [] none) ∙ sym (ap (match_at byte_width s false) (key_with_value-none K [] none))
+  without_empty s (u ∷ w) none = without_empty_by s u w (longest_key K [] (u ∷ w)) none (longest_key-begins K [] (u ∷ w)) (without_empty (s + 1) w none)
+
+  ends_later_by : (s u : ℕ) (after : Bool) (w : List ℕ) (o : Option (List ℕ × V)) (m : Match V) (ms : List (Match V)) → K [] ≡ [] → ((k : List ℕ × V) → o ≡ Some k → Begins K [] (u ∷ w) k)
+      → (leftmost_from byte_width K (s + 1) 0 after w ≡ m ∷ ms → s + 1 < m.end) → here s after w o ≡ m ∷ ms → s < m.end
+  ends_later_by s u after w None m ms none begins on e = let lt = on e in omega (arith, lt)
+  ends_later_by s u after w (Some ([], v)) m ms none begins on e = absurd (no_empty (Some ([], v)) u w v none begins refl)
+  ends_later_by s u after w (Some (c ∷ p, v)) m ms none begins on e =
+      let first : Match V = record { start = s; end = s + size byte_width (c ∷ p); value = v } in
+      let same = heads first m (leftmost_from byte_width K (s + 1) (length p) true w) ms e in
+      omega (arith, ap (λ (x : Match V). x.end) same, size-bytes (c ∷ p))
+
+  ends_later : (s : ℕ) (after : Bool) (w : List ℕ) (m : Match V) (ms : List (Match V)) → K [] ≡ [] → leftmost_from byte_width K s 0 after w ≡ m ∷ ms → s < m.end
+  ends_later s after [] m ms none e = absurd (no_match m ms (sym (ap (match_at byte_width s after) (key_with_value-none K [] none)) ∙ e))
+  ends_later s after (u ∷ w) m ms none e = ends_later_by s u after w (longest_key K [] (u ∷ w)) m ms none (longest_key-begins K [] (u ∷ w)) (ends_later (s + 1) after w m ms none) e
+
+  -- What a search that begins at s finds is what one finds there right behind a nonempty match, but for an empty match at s.
+  pub record IsAfter (s : ℕ) (fresh after : List (Match V)) : Type 0 where
+    pub none : fresh ≡ [] → after ≡ []
+    pub empty : (m : Match V) (ms : List (Match V)) → fresh ≡ m ∷ ms → m.end ≡ s → after ≡ ms
+    pub later : (m : Match V) (ms : List (Match V)) → fresh ≡ m ∷ ms → s < m.end → after ≡ m ∷ ms
+
+  same_after : (s : ℕ) (l after : List (Match V)) → after ≡ l → ((m : Match V) (ms : List (Match V)) → l ≡ m ∷ ms → s < m.end) → IsAfter s l after
+  same_after s l after is ends = record {
+    none = λ e. is ∙ e;
+    empty = λ m ms e at. absurd (omega (arith, ends m ms e, at));
+    later = λ m ms e lt. is ∙ e;
+  }
+
+  empty_after : (s : ℕ) (v : V) (ms : List (Match V)) → IsAfter s (record { start = s; end = s; value = v } ∷ ms) ms
+  empty_after s v ms = record {
+    none = λ e. absurd (no_match (record { start = s; end = s; value = v }) ms (sym e));
+    empty = λ m ns e at. tails (record { start = s; end = s; value = v }) m ms ns e;
+    later = λ m ns e lt. absurd (omega (arith, lt, ap (λ (x : Match V). x.end) (heads (record { start = s; end = s; value = v }) m ms ns e)));
+  }
+
+  after_last : (s : ℕ) (o : Option (List ℕ × V)) → ((k : List ℕ × V) → o ≡ Some k → Begins K [] [] k) → IsAfter s (match_at byte_width s false o) (match_at byte_width s true o)
+  after_last s None begins = same_after s [] [] refl (λ m ms e. absurd (no_match m ms e))
+  after_last s (Some ([], v)) begins = empty_after s v []
+  after_last s (Some (c ∷ p, v)) begins =
+      let b = begins (c ∷ p, v) refl in
+      absurd (omega (arith, ap length b.key, ap length b.splits, length-append b.more b.rest))
+
+  after_by : (s u : ℕ) (w : List ℕ) (o : Option (List ℕ × V)) → longest_key K [] (u ∷ w) ≡ o → IsAfter s (here s false w o) (here s true w o)
+  after_by s u w None is =
+      let none = no_key [] (K []) (none_either (longest_key K (u ∷ []) w) (key_with_value K []) is).1 in
+      same_after s (leftmost_from byte_width K (s + 1) 0 false w) (leftmost_from byte_width K (s + 1) 0 true w) (without_empty (s + 1) w none)
+      (λ m ms e. let lt = ends_later (s + 1) false w m ms none e in omega (arith, lt))
+  after_by s u w (Some ([], v)) is = empty_after s v (leftmost_from byte_width K (s + 1) 0 false w)
+  after_by s u w (Some (c ∷ p, v)) is =
+      let first : Match V = record { start = s; end = s + size byte_width (c ∷ p); value = v } in
+      let rest = leftmost_from byte_width K (s + 1) (length p) true w in
+      same_after s (first ∷ rest) (first ∷ rest) refl (λ m ms e. omega (arith, ap (λ (x : Match V). x.end) (heads first m rest ms e), size-bytes (c ∷ p)))
+
+  pub after_nonempty : (s : ℕ) (w : List ℕ) → IsAfter s (leftmost_from byte_width K s 0 false w) (leftmost_from byte_width K s 0 true w)
+  after_nonempty s [] = after_last s (longest_key K [] []) (longest_key-begins K [] [])
+  after_nonempty s (u ∷ w) = after_by s u w (longest_key K [] (u ∷ w)) refl

@@ -1,0 +1,59 @@
+-- What was written so far of matches that are written one by one.
+use Rattle.std.proofs.Common.{◌≡◌, ℕ, ◌+◌, ◌<◌, ◌≤◌, List, [], ◌∷◌, ◌++◌, map, take, drop, length, get_or, refl, sym, ap, ◌∙◌, arith}
+use Rattle.std.specs.Prelude.{slice_set}
+use Rattle.std.proofs.lemmas.List.{drop_all, drop-drop, drop_more, length-drop, length-take, length-set, take_more}
+use Rattle.daachorse_model.specs.declared.Match.{Match}
+use Rattle.daachorse_c.specs.declared.found.CMatch.{CMatch}
+use Rattle.daachorse_c.specs.Writes.{Writes, c_match}
+use Rattle.daachorse_c.proofs.Writing.{one_more}
+
+-- n of all matches were written to what was there, and these are left
+pub record Told (all rest : List (Match ℕ)) (old new : List CMatch) (n : ℕ) : Type 0 where
+  pub room : n ≤ length old
+  pub there : n ≤ length all
+  pub left : drop n all ≡ rest
+  pub wrote : new ≡ map c_match (take n all) ++ drop n old
+
+-- nothing is left unless there is no more room
+pub Writes-from_told : {all left : List (Match ℕ)} {old new : List CMatch} {n : ℕ} → Told all left old new n → (n < length old → left ≡ []) → Writes all old new n
+Writes-from_told {all} {left} {old} {new} {n} t whole = record {
+  room = t.room;
+  there = t.there;
+  whole = λ lt. let long = length-drop n all in let none = ap length (t.left ∙ whole lt) in omega (arith, long, none, t.there);
+  wrote = t.wrote;
+}
+
+-- nothing was written
+pub told_nothing : (all : List (Match ℕ)) (old : List CMatch) → Told all all old old 0
+told_nothing all old = record { room = omega arith; there = omega arith; left = refl; wrote = refl }
+
+-- the first matches were written, and these are left
+pub told-first : {all some rest : List (Match ℕ)} {old new : List CMatch} {n : ℕ} → all ≡ some → Writes some old new n → rest ≡ drop n some → Told all rest old new n
+told-first {all} {some} {rest} {old} {new} {n} same w is = record {
+  room = w.room;
+  there = omega (arith, w.there, ap length same);
+  left = ap (drop n) same ∙ sym is;
+  wrote = w.wrote ∙ ap (λ l. map c_match (take n l) ++ drop n old) (sym same);
+}
+
+-- where there is room, none is left
+pub none_left : {some rest : List (Match ℕ)} {old new : List CMatch} {n : ℕ} → Writes some old new n → rest ≡ drop n some → n < length old → rest ≡ []
+none_left {some} {rest} {old} {new} {n} w is lt = is ∙ drop_all n some (omega (arith, w.whole lt))
+
+heads : (x m : Match ℕ) (xs ms : List (Match ℕ)) → x ∷ xs ≡ m ∷ ms → x ≡ m
+heads x m xs ms e = cc
+
+-- one match more
+pub told-one : {all rest : List (Match ℕ)} {old new : List CMatch} {n : ℕ} (m : Match ℕ) (ms : List (Match ℕ)) → Told all rest old new n → rest ≡ m ∷ ms → n < length old
+    → Told all ms old (slice_set new n (c_match m)) (n + 1)
+told-one {all} {rest} {old} {new} {n} m ms t next lt =
+    let left = t.left ∙ next in
+    let there : n < length all = omega (arith, length-drop n all, ap length left) in
+    let here : get_or all n m ≡ m = heads (get_or all n m) m (drop (n + 1) all) ms (sym (drop_more all n m there) ∙ left) in
+    let front : take n all ++ m ∷ [] ≡ take (n + 1) all = ap (λ x. take n all ++ x ∷ []) (sym here) ∙ sym (take_more all n m there) in
+    record {
+      room = omega (arith, lt);
+      there = omega (arith, there);
+      left = sym (drop-drop 1 n all) ∙ ap (drop 1) left;
+      wrote = one_more (take n all) m old new n (omega (arith, length-take n all, there)) lt t.wrote ∙ ap (λ l. map c_match l ++ drop (n + 1) old) front;
+    }

@@ -1,0 +1,39 @@
+-- What is found at the place follows it, unless it is an empty leftmost match right after a nonempty one.
+use Rattle.std.proofs.Common.{◌≡◌, [], true, sym, ◌∙◌}
+use Rattle.std.proofs.lemmas.Option.{IfSome_then}
+use Rattle.std.proofs.lemmas.Bool.{false≢true}
+use Rattle.daachorse_model.specs.Folding.{as_read}
+use Rattle.daachorse_bytewise.specs.Automata.{dictionary_of, kind_of}
+use Rattle.daachorse_c.specs.Held.{automaton_of}
+use Rattle.daachorse_c.specs.Places.{afresh, left_at}
+use Rattle.daachorse_c.proofs.Places.{left_empty, left_kept, left_none, left_same, none_weaker, pass_over}
+use Rattle.daachorse_c.proofs.searches.Searches.next_match.Goals as goal
+
+pub returns-in_default-clause-none : goal.returns-in_default-clause-none
+returns-in_default-clause-none c =
+    let a = automaton_of c.args.self.now in let h = as_read a.folds c.args.haystack.now in let none = c.in_default.ensures.none in
+    (left_none (kind_of a) (dictionary_of a) h c.args.place.now none.0, pass_over (kind_of a) (dictionary_of a) h c.pass_first.new.place none.1)
+
+pub returns-then-leaves_out-clause-none : goal.returns-then-leaves_out-clause-none
+returns-then-leaves_out-clause-none c =
+    let a = automaton_of c.args.self.now in let h = as_read a.folds c.args.haystack.now in let kind = kind_of a in let K = dictionary_of a in
+    let p = c.args.place.now in let q = c.pass_first.new.place in let out = c.leaves_out.ensures.0 c.if-leaves_out.true in
+    let back : left_at kind K h p ≡ left_at kind K h (afresh q) =
+    left_empty kind K h p out.0 out.2 c.in-Some.found (left_at kind K h q) c.in-Some.ensures.some out.1 ∙ left_same kind K h q (c.in-Some.ensures.clear out.1) in
+    let again = c.pass_first-then-leaves_out in
+    none_weaker again.result ((left_at kind K h (afresh q) ≡ []) × (again.new.place.over ≡ true)) ((left_at kind K h p ≡ []) × (left_at kind K h again.new.place ≡ []))
+    (λ x. (back ∙ x.0, pass_over kind K h again.new.place x.1)) again.ensures.none
+
+pub returns-then-leaves_out-clause-some : goal.returns-then-leaves_out-clause-some
+returns-then-leaves_out-clause-some c =
+    let a = automaton_of c.args.self.now in let h = as_read a.folds c.args.haystack.now in let kind = kind_of a in let K = dictionary_of a in
+    let p = c.args.place.now in let q = c.pass_first.new.place in let out = c.leaves_out.ensures.0 c.if-leaves_out.true in
+    let back : left_at kind K h p ≡ left_at kind K h (afresh q) =
+    left_empty kind K h p out.0 out.2 c.in-Some.found (left_at kind K h q) c.in-Some.ensures.some out.1 ∙ left_same kind K h q (c.in-Some.ensures.clear out.1) in
+    let again = c.pass_first-then-leaves_out in
+    IfSome_then again.result again.ensures.some (λ x e. back ∙ e)
+
+pub returns-clause-some : goal.returns-clause-some
+returns-clause-some c =
+    let a = automaton_of c.args.self.now in let h = as_read a.folds c.args.haystack.now in
+    left_kept (kind_of a) (dictionary_of a) h c.args.place.now c.in-Some.found _ c.in-Some.ensures.some c.in-Some.ensures.end (λ is. false≢true (sym c.if-leaves_out.false ∙ c.leaves_out.ensures.1 is))

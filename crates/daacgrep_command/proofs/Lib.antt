@@ -1,3 +1,4 @@
+pub mod Asking
 pub mod Cuts
 pub mod Requests
 pub mod Selected

@@ -9,12 +9,12 @@ use Rattle.daachorse_model.specs.Dictionary.{Dictionary}
 use Rattle.daachorse_model.specs.Folding.{as_read}
 use Rattle.daachorse_model.specs.Laws.{IsOccurrence}
 use Rattle.daachorse_model.specs.Leftmost.{leftmost}
-use Rattle.daachorse_model.specs.Program.{pattern_lines, without_empty_end}
+use Rattle.daachorse_model.specs.Program.{without_empty_end}
 use Rattle.daachorse_model.specs.Units.{byte_width}
 use Rattle.daachorse_model.proofs.Find.{leftmost_occur}
 use Rattle.daachorse_model.proofs.FoldLaws.{length-as_read}
 use Rattle.daachorse_model.proofs.Suffixes.{size-bytes}
-use Rattle.daacgrep_command.specs.Lines.{TextLine, lines_from, lines_of}
+use Rattle.daacgrep_command.specs.Lines.{TextLine, lines_from, lines_of, pieces_of}
 use Rattle.daacgrep_command.specs.Printed.{has_any}
 use Rattle.daacgrep_command.proofs.Cuts.{first_stays}
 
@@ -68,15 +68,15 @@ by_byte : (c : Bool) (x n : ℕ) (pieces : List (List ℕ)) → 0 < length piece
 by_byte true x n pieces some few = omega (arith, ap length (first_stays [] pieces some))
 by_byte false x n pieces some few = omega (arith, one_more x pieces some)
 
-few_pieces : (text : List ℕ) → length (without_empty_end (slice_split (λ b. b == 10) text)) ≤ length text
-few_pieces [] = omega arith
-few_pieces (x ∷ text) =
-    let pieces = slice_split (λ b. b == 10) text in
-    by_byte (x == 10) x (length text) pieces (omega (arith, length-slice_split (λ b. b == 10) text)) (few_pieces text)
+few_pieces : (mark : ℕ) (text : List ℕ) → length (without_empty_end (slice_split (λ b. b == mark) text)) ≤ length text
+few_pieces mark [] = omega arith
+few_pieces mark (x ∷ text) =
+    let pieces = slice_split (λ b. b == mark) text in
+    by_byte (x == mark) x (length text) pieces (omega (arith, length-slice_split (λ b. b == mark) text)) (few_pieces mark text)
 
 -- a text has no more lines than bytes
-pub lines_few : (text : List ℕ) → length (lines_of text) ≤ length text
-lines_few text = omega (arith, length-lines_from 0 0 (pattern_lines text), few_pieces text)
+pub lines_few : (mark : ℕ) (text : List ℕ) → length (lines_of mark text) ≤ length text
+lines_few mark text = omega (arith, length-lines_from 0 0 (pieces_of mark text), few_pieces mark text)
 
 pub or_assoc : (a b c : Bool) → (a || (b || c)) ≡ ((a || b) || c)
 or_assoc true b c = refl

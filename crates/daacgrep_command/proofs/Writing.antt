@@ -1,8 +1,8 @@
 -- What a sink took of texts that were written one after the other.
-use Rattle.std.proofs.Common.{◌≡◌, ℕ, ◌+◌, List, ◌++◌, Option, Result, Ok, Err, ap, sym, subst, ◌∙◌, append_assoc}
+use Rattle.std.proofs.Common.{◌≡◌, ℕ, ◌+◌, List, ◌++◌, Option, Result, Ok, Err, [], ap, sym, subst, ◌∙◌, append_assoc, append-nil}
 use Rattle.std.specs.Prelude.{OnOk, OnErr}
-use Rattle.std.specs.Io.KnownBytes.{Appends}
-use Rattle.std.proofs.KnownBytes.{Appends-trans}
+use Rattle.std.specs.Io.KnownBytes.{Appends, Keeps}
+use Rattle.std.proofs.KnownBytes.{Appends-kept, Appends-trans}
 use Rattle.daachorse_bytewise.specs.Replaced.{AppendsBeginning}
 use Rattle.daachorse_bytewise.proofs.Sending.{AppendsBeginning-behind, AppendsBeginning-more}
 use Rattle.daacfind_command.specs.Runs.{IsWritten}
@@ -34,3 +34,11 @@ module _ {U E : Type 0} where
 
   pub written_all : (a b : Option (List ℕ)) (f g : ℕ) (all sent : List ℕ) (x : U) → all ≡ sent → Appends a b sent → g ≡ f → IsWritten {E = E} a b f g (Ok x) all
   written_all a b f g all sent x e p same = record { whole = subst (Appends a b) (sym e) p; unfailed = same; beginning = tt; failed = tt }
+
+module _ {T U E F : Type 0} (a b c : Option (List ℕ)) (f g h : ℕ) (t : List ℕ) where
+  -- a flush takes nothing, and may fail
+  pub flushed : (x : T) (y : U) → IsWritten {T = T} {E = E} a b f g (Ok x) t → Keeps b c → h ≡ g → IsWritten {T = U} {E = F} a c f h (Ok y) t
+  flushed x y w kept same = record { whole = Appends-kept a b c t w.whole kept; unfailed = same ∙ w.unfailed; beginning = tt; failed = tt }
+
+  pub unflushed : (x : T) (y : F) → IsWritten {T = T} {E = E} a b f g (Ok x) t → Keeps b c → h ≡ g + 1 → IsWritten {T = U} {E = F} a c f h (Err y) t
+  unflushed x y w kept more = record { whole = tt; unfailed = tt; beginning = (t, [], sym (append-nil t), Appends-kept a b c t w.whole kept); failed = more ∙ ap (λ n. n + 1) w.unfailed }

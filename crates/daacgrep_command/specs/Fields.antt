@@ -12,6 +12,6 @@ abbrev pub number_field : Bool → ℕ → List ℕ
 number_field true n = decimal n ++ 58 ∷ []
 number_field false n = []
 
--- a text behind its labels, and a line feed
+-- a text behind its labels, and the mark at its end
 abbrev pub entry : Labels → List ℕ → ℕ → ℕ → List ℕ → List ℕ
-entry labels name number place text = name_field labels.names name ++ (number_field labels.numbers number ++ (number_field labels.places place ++ (text ++ 10 ∷ [])))
+entry labels name number place text = name_field labels.names name ++ (number_field labels.numbers number ++ (number_field labels.places place ++ (text ++ labels.end ∷ [])))

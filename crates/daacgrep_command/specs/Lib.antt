@@ -1,3 +1,4 @@
+pub mod Asked
 pub mod Fields
 pub mod Flags
 pub mod Lines

@@ -1,6 +1,7 @@
 -- The lines of a text, with their numbers and places.
-use Rattle.std.specs.Prelude.{ℕ, ◌+◌, List, [], ◌∷◌, length}
-use Rattle.daachorse_model.specs.Program.{pattern_lines}
+use Rattle.std.specs.Prelude.{ℕ, ◌+◌, ◌==◌, List, [], ◌∷◌, length}
+use Rattle.std.specs.List.{slice_split}
+use Rattle.daachorse_model.specs.Program.{without_empty_end}
 use Rattle.daacgrep_command.specs.declared.line.Line.{Line}
 
 -- a line: its number, the place of its first byte, and its bytes
@@ -17,6 +18,10 @@ abbrev pub lines_from : ℕ → ℕ → List (List ℕ) → List TextLine
 lines_from before start [] = []
 lines_from before start (piece ∷ pieces) = record { number = before + 1; start = start; bytes = piece } ∷ lines_from (before + 1) (start + length piece + 1) pieces
 
--- the lines of a text: the pieces between line feeds, less an empty one at the end
-abbrev pub lines_of : List ℕ → List TextLine
-lines_of text = lines_from 0 0 (pattern_lines text)
+-- the pieces between marks, less an empty one at the end
+abbrev pub pieces_of : ℕ → List ℕ → List (List ℕ)
+pieces_of mark text = without_empty_end (slice_split (λ b. b == mark) text)
+
+-- the lines of a text, where a mark ends each
+abbrev pub lines_of : ℕ → List ℕ → List TextLine
+lines_of mark text = lines_from 0 0 (pieces_of mark text)

@@ -72,4 +72,4 @@ module _ (K : Dictionary ℕ) (folds : Bool) where
     report_text Nothing lines = []
 
     abbrev pub file_text : List ℕ → List ℕ
-    file_text text = report_text task.report (lines_of text)
+    file_text text = report_text task.report (lines_of task.labels.end text)

@@ -1,18 +1,22 @@
 //! The command: from the words of a command line to a status.
 
+ghost use Rattle.std.specs.Prelude.{◌≡◌, IfOk, map};
+ghost use Rattle.daacfind_command.specs.Runs.{IsWritten};
+ghost use Rattle.daachorse_bytewise.specs.Automata.{dictionary_of};
+ghost use Rattle.daacgrep_command.specs.Asked.{Ends, EndsBy, IsSearched, end_asked, names_asked, report_asked, status_of, task_of};
+
+use crate::error::CommandError;
+use crate::files::search_files;
 use crate::flag::Flag;
-use crate::lines::Lines;
-use crate::options::{OptionError, Options};
+use crate::options::Options;
+use crate::patterns::searcher;
 use crate::printing::Labels;
-use crate::search::{Report, Task, search_file};
+use crate::search::{Report, Task};
 use crate::searcher::Searcher;
 use daacfind_command::inputs::Inputs;
-use daacfind_command::sink::{Sink, SinkError, SinkText, write_whole};
-use daachorse::MatchKind;
-use daachorse::errors::DaachorseError;
-use std::alloc::{AllocError, Global};
+use daacfind_command::sink::{Sink, SinkText, write_whole};
+use std::alloc::Global;
 use std::fmt::Write;
-use thiserror::Error;
 
 const USAGE: &str = "\
 usage: daacgrep [OPTION..] -e PATTERN | -f PATTERNS [FILE..]
@@ -22,38 +26,21 @@ Prints the lines of files, or of standard input, in which a pattern occurs.
   -i          ignore the case of ASCII letters
   -v          the lines without a match
   -o          each match in place of its line
+  --longest   of matches at one start the longest, as is usual
+  --first     of matches at one start that of the first pattern
   -n, -b      the number of the line, the place of the line or match
   -H, -h      names of files, or none
   -c, -l      the number of lines, the names of files
   -q          print nothing
+  --null-data zero bytes end lines, and not line feeds
   --help, --version
 Status: 0 if a line is selected, 1 if none, 2 after trouble.
 ";
 
 const VERSION: &str = "daacgrep 1.0.0\n";
 
-/// Why a command failed. Its text is the line for standard error.
-#[derive(Debug, Drop, Error)]
-enum CommandError<'a> {
-    #[error(transparent)]
-    Options(#[from] OptionError<'a>),
-    #[error("daacgrep: no pattern: -e PATTERN or -f FILE is wanted; see daacgrep --help")]
-    NoPattern,
-    #[error("daacgrep: cannot read {0}")]
-    Read(&'a str),
-    #[error("daacgrep: {0}")]
-    Build(#[from] DaachorseError),
-    #[error("daacgrep: {0}")]
-    OutOfMemory(#[from] AllocError),
-    #[error("daacgrep: cannot write")]
-    Write,
-}
-
-impl From<SinkError> for CommandError<'_> {
-    fn from(_failure: SinkError) -> Self {
-        CommandError::Write
-    }
-}
+// The names that are searched where none is given.
+const STANDARD_INPUT: &[&str] = &["-"];
 
 /// Runs the command, and returns its status: 0 if a line is selected, 1 if none is, and 2 after
 /// trouble. A file that cannot be read is told of on `err`, and the search goes on with the next.
@@ -63,7 +50,9 @@ pub fn command<I: Inputs, S: Sink, E: Sink>(
     files: &mut I,
     out: &mut S,
     err: &mut E,
-) -> u8 {
+) -> u8
+    ensures { EndsBy (map (λ w. w.now) words.now) (I.given files.old) (S.taken out.old) (S.taken out.new) (S.failures out.old) (S.failures out.new) result }
+{
     match attempt(alloc, words, files, out, err) {
         Ok(status) => status,
         Err(error) => {
@@ -79,129 +68,75 @@ fn attempt<'a, I: Inputs, S: Sink, E: Sink>(
     files: &mut I,
     out: &mut S,
     err: &mut E,
-) -> Result<u8, CommandError<'a>> {
+) -> Result<u8, CommandError<'a>>
+    ensures { EndsBy (map (λ w. w.now) words.now) (I.given files.old) (S.taken out.old) (S.taken out.new) (S.failures out.old) (S.failures out.new) (status_of result) }
+{
     let options = Options::read(alloc, words)?;
+    answer(alloc, &options, files, out, err)
+}
+
+// Does what the options ask for.
+fn answer<'a, I: Inputs, S: Sink, E: Sink>(
+    alloc: Global,
+    options: &Options<'a, Global>,
+    files: &mut I,
+    out: &mut S,
+    err: &mut E,
+) -> Result<u8, CommandError<'a>>
+    ensures { Ends options.now (I.given files.old) (S.taken out.old) (S.taken out.new) (S.failures out.old) (S.failures out.new) result }
+{
     if options.has(Flag::Help) {
         return told(USAGE, out);
     }
     if options.has(Flag::Version) {
         return told(VERSION, out);
     }
-    let searcher = searcher(alloc, &options, files)?;
-    let outcome = search_files(&searcher, &options, files, out, err)?;
-    out.flush()?;
-    Ok(outcome.status(options.has(Flag::Quiet)))
+    let searcher = searcher(alloc, options, files, err)?;
+    search(&searcher, options, files, out, err)
 }
 
-fn told<'a, S: Sink>(text: &str, out: &mut S) -> Result<u8, CommandError<'a>> {
+// Writes a text, and flushes the sink.
+fn told<'a, S: Sink>(text: &str, out: &mut S) -> Result<u8, CommandError<'a>>
+    ensures written { IsWritten (S.taken out.old) (S.taken out.new) (S.failures out.old) (S.failures out.new) result text.now }
+    ensures status { IfOk result (λ status. status ≡ 0) }
+{
     write_whole(out, text.as_bytes())?;
     out.flush()?;
     Ok(0)
 }
 
-fn searcher<'a, I: Inputs>(
-    alloc: Global,
-    options: &Options<'a, Global>,
-    files: &mut I,
-) -> Result<Searcher<Global>, CommandError<'a>> {
-    let texts = pattern_texts(alloc, options, files)?;
-    if texts.is_empty() {
-        return Err(CommandError::NoPattern);
-    }
-    let patterns = patterns(alloc, &texts)?;
-    let folds = options.has(Flag::IgnoreCase);
-    Ok(Searcher::new(alloc, MatchKind::LeftmostLongest, folds, &patterns)?)
-}
-
-// The texts whose lines are the patterns: each of `-e` with a line feed, and each file of `-f`.
-fn pattern_texts<'a, I: Inputs>(
-    alloc: Global,
-    options: &Options<'a, Global>,
-    files: &mut I,
-) -> Result<Vec<Vec<u8>>, CommandError<'a>> {
-    let mut texts = Vec::new(alloc);
-    for pattern in options.patterns() {
-        let mut text = Vec::from_slice(alloc, pattern.as_bytes())?;
-        text.push(b'\n').map_err(AllocError::from)?;
-        texts.push(text).map_err(AllocError::from)?;
-    }
-    for name in options.pattern_files() {
-        let text = files.read(name).ok_or(CommandError::Read(name))?;
-        texts.push(text).map_err(AllocError::from)?;
-    }
-    Ok(texts)
-}
-
-fn patterns(alloc: Global, texts: &[Vec<u8>]) -> Result<Vec<&[u8]>, AllocError> {
-    let mut patterns = Vec::new(alloc);
-    for text in texts {
-        for line in Lines::new(text) {
-            patterns.push(line.bytes)?;
-        }
-    }
-    Ok(patterns)
-}
-
-/// What came of a search of files.
-#[derive(Clone, Copy, Debug, PartialEq, Eq)]
-struct Outcome {
-    /// Whether a line is selected.
-    selected: bool,
-    /// Whether a file could not be read.
-    trouble: bool,
-}
-
-impl Outcome {
-    fn status(self, is_quiet: bool) -> u8 {
-        if self.trouble && !(is_quiet && self.selected) {
-            2
-        } else if self.selected {
-            0
-        } else {
-            1
-        }
-    }
-}
-
-fn search_files<I: Inputs, S: Sink, E: Sink>(
+// Searches the files that the options name, and flushes the sink.
+fn search<'a, I: Inputs, S: Sink, E: Sink>(
     searcher: &Searcher<Global>,
-    options: &Options<'_, Global>,
+    options: &Options<'a, Global>,
     files: &mut I,
     out: &mut S,
     err: &mut E,
-) -> Result<Outcome, SinkError> {
+) -> Result<u8, CommandError<'a>>
+    ensures { IsSearched (dictionary_of searcher.now) searcher.now.folds options.now (I.given files.old) (S.taken out.old) (S.taken out.new) (S.failures out.old) (S.failures out.new) result }
+{
+    let names = named(options);
+    let outcome = search_files(searcher, task(options), names, files, out, err)?;
+    out.flush()?;
+    Ok(outcome.status(options.has(Flag::Quiet)))
+}
+
+// The names of the files that are searched.
+fn named<'o, 'a>(options: &'o Options<'a, Global>) -> &'o [&'a str]
+    ensures { map (λ n. n.now) result.now ≡ names_asked options.entry.now.files }
+{
     let names = options.files();
-    let names = if names.is_empty() { &["-"] } else { names };
-    let task = task(options, names.len() > 1);
-    let mut outcome = Outcome {
-        selected: false,
-        trouble: false,
-    };
-    for name in names {
-        match files.read(name) {
-            Some(text) => {
-                if search_file(searcher, task, shown(name), &text, out)? {
-                    outcome.selected = true;
-                }
-            }
-            None => {
-                let _ = writeln!(SinkText { sink: err }, "daacgrep: cannot read {name}");
-                outcome.trouble = true;
-            }
-        }
-    }
-    Ok(outcome)
-}
-
-// The name of a file as it is printed.
-fn shown(name: &str) -> &str {
-    match name {
-        "-" => "(standard input)",
-        _ => name,
+    if names.is_empty() {
+        STANDARD_INPUT
+    } else {
+        names
     }
 }
 
-fn task(options: &Options<'_, Global>, are_several: bool) -> Task {
+fn task(options: &Options<'_, Global>) -> Task
+    ensures { result ≡ task_of options.now }
+{
+    let are_several = options.files().len() > 1;
     Task {
         report: report(options),
         inverts: options.has(Flag::Invert),
@@ -209,11 +144,25 @@ fn task(options: &Options<'_, Global>, are_several: bool) -> Task {
             names: !options.has(Flag::NoName) && (are_several || options.has(Flag::WithName)),
             numbers: options.has(Flag::Numbers),
             places: options.has(Flag::Places),
+            end: line_end(options),
         },
     }
 }
 
-fn report(options: &Options<'_, Global>) -> Report {
+// The byte that ends lines.
+fn line_end(options: &Options<'_, Global>) -> u8
+    ensures { result ≡ end_asked options.now.flags }
+{
+    if options.has(Flag::NullData) {
+        0
+    } else {
+        b'\n'
+    }
+}
+
+fn report(options: &Options<'_, Global>) -> Report
+    ensures { result ≡ report_asked options.now.flags }
+{
     if options.has(Flag::Quiet) {
         Report::Nothing
     } else if options.has(Flag::FileNames) {

@@ -26,6 +26,12 @@ pub enum Flag {
     IgnoreCase,
     /// `-v`: the lines without a match.
     Invert,
+    /// `--null-data`: zero bytes end lines, and not line feeds.
+    NullData,
+    /// `--longest`: of the matches at one start the longest counts.
+    Longest,
+    /// `--first`: of the matches at one start that of the first pattern counts.
+    First,
     /// `--help`: the usage.
     Help,
     /// `--version`: the version.
@@ -48,6 +54,9 @@ impl Flag {
             b"-q" => Some(Flag::Quiet),
             b"-i" => Some(Flag::IgnoreCase),
             b"-v" => Some(Flag::Invert),
+            b"--null-data" => Some(Flag::NullData),
+            b"--longest" => Some(Flag::Longest),
+            b"--first" => Some(Flag::First),
             b"--help" => Some(Flag::Help),
             b"--version" => Some(Flag::Version),
             _ => None,

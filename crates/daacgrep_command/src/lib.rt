@@ -2,10 +2,13 @@
 #![tactic(auto)]
 
 pub mod command;
+pub mod error;
+pub mod files;
 pub mod flag;
 pub mod line;
 pub mod lines;
 pub mod options;
+pub mod patterns;
 pub mod printing;
 pub mod program;
 pub mod search;

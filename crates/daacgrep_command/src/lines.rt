@@ -7,9 +7,10 @@ ghost use Rattle.daacgrep_command.specs.Lines.{lines_of};
 use crate::line::Line;
 use std::marker::Model;
 
-/// The lines of a text, in order. A line feed at the end begins no further line.
+/// The lines of a text, in order. A mark ends each, and one at the end begins no further line.
 #[derive(Drop)]
 pub struct Lines<'a> {
+    mark: u8,
     rest: &'a [u8],
     // The number of lines that were given, and the place of the rest.
     given: usize,
@@ -18,22 +19,22 @@ pub struct Lines<'a> {
 
 impl<'a> Model for Lines<'a> {
     ghost use Rattle.std.specs.Prelude.{List, ◌+◌, ◌≤◌, ◌<◌, ◌^◌, length};
-    ghost use Rattle.daachorse_model.specs.Program.{pattern_lines};
-    ghost use Rattle.daacgrep_command.specs.Lines.{TextLine, lines_from};
+    ghost use Rattle.daacgrep_command.specs.Lines.{TextLine, lines_from, pieces_of};
 
     ghost Value = { List TextLine };
 
-    ghost view = { λ s. lines_from s.given s.start (pattern_lines s.rest.now) };
+    ghost view = { λ s. lines_from s.given s.start (pieces_of s.mark s.rest.now) };
 
     ghost invariant = { λ s. (s.given ≤ s.start) × (s.start + length s.rest.now < 2 ^ 64) };
 }
 
 impl<'a> Lines<'a> {
-    /// The lines of a text.
-    pub fn new(text: &'a [u8]) -> Self
-        ensures { result ≡ lines_of text.entry.now }
+    /// The lines of a text, where a mark ends each.
+    pub fn new(text: &'a [u8], mark: u8) -> Self
+        ensures { result ≡ lines_of mark text.entry.now }
     {
         Lines {
+            mark,
             rest: text,
             given: 0,
             start: 0,
@@ -56,7 +57,7 @@ impl<'a> Iterator for Lines<'a> {
         if self.rest.is_empty() {
             return None;
         }
-        let (len, end) = first_line(self.rest);
+        let (len, end) = first_line(self.mark, self.rest);
         let line = Line {
             number: self.given + 1,
             start: self.start,
@@ -69,22 +70,22 @@ impl<'a> Iterator for Lines<'a> {
     }
 }
 
-// The length of the first line, and the place behind it and its line feed.
-fn first_line(text: &[u8]) -> (usize, usize)
-    ensures len { result.0 ≡ position_or_len (λ b. b == 10) text.now }
+// The length of the first line, and the place behind it and its mark.
+fn first_line(mark: u8, text: &[u8]) -> (usize, usize)
+    ensures len { result.0 ≡ position_or_len (λ b. b == mark) text.now }
     ensures end { ((result.0 < length text.now) × (result.1 ≡ result.0 + 1)) ⊎ ((length text.now ≤ result.0) × (result.1 ≡ result.0)) }
     ensures within { result.1 ≤ length text.now }
 {
-    match feed_place(text) {
+    match mark_place(mark, text) {
         Some(len) => (len, len + 1),
         None => (text.len(), text.len()),
     }
 }
 
-// The place of the first line feed.
-fn feed_place(text: &[u8]) -> Option<usize>
-    ensures place { result ≡ position (λ b. b == 10) text.now }
+// The place of the first mark.
+fn mark_place(mark: u8, text: &[u8]) -> Option<usize>
+    ensures place { result ≡ position (λ b. b == mark) text.now }
     ensures within { IfSome result (λ place. place < length text.now) }
 {
-    text.iter().position(|byte| *byte == b'\n')
+    text.iter().position(|byte| *byte == mark)
 }

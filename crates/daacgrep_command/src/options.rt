@@ -4,7 +4,7 @@ ghost use Rattle.std.specs.Prelude.{◌≡◌, ◌≤◌, ◌<◌, ◌∷◌, []
 ghost use Rattle.daacgrep_command.specs.declared.options.Role.TheVariants.{Any};
 ghost use Rattle.daacgrep_command.specs.declared.options.Shape.TheVariants.{Letters};
 ghost use Rattle.daacgrep_command.specs.Options.{AreKnown, IsCause, Takes, asked, asked_by, flag_letters, flag_or_unknown, letters_ask, options_of, requests, role_after, role_behind, role_of_word, shape_of};
-ghost use Rattle.daacgrep_command.specs.Flags.{flag_of};
+ghost use Rattle.daacgrep_command.specs.Flags.{asks, flag_of};
 
 use crate::flag::Flag;
 use std::alloc::{AllocError, AllocFailed, Allocator};
@@ -134,7 +134,9 @@ impl<'a, A: Allocator + Copy> Options<'a, A> {
     }
 
     /// Returns whether the flag is asked for.
-    pub fn has(&self, flag: Flag) -> bool {
+    pub fn has(&self, flag: Flag) -> bool
+        ensures { result ≡ asks flag self.now.flags }
+    {
         self.flags.contains(&flag)
     }
 

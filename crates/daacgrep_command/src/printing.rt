@@ -6,7 +6,7 @@ ghost use Rattle.daacgrep_command.specs.Fields.{entry, name_field, number_field}
 
 use daacfind_command::sink::{Sink, SinkError, write_whole};
 
-/// What stands in front of a line or a match, each with a colon behind it.
+/// What stands in front of a line or a match, each with a colon behind it, and what stands behind.
 #[derive(Clone, Copy, Debug, PartialEq, Eq)]
 pub struct Labels {
     /// The name of the file.
@@ -15,9 +15,11 @@ pub struct Labels {
     pub numbers: bool,
     /// The place of the first byte.
     pub places: bool,
+    /// The byte behind it.
+    pub end: u8,
 }
 
-/// Writes a text behind its labels, and a line feed.
+/// Writes a text with its labels.
 pub fn write_entry<S: Sink>(
     labels: Labels,
     name: &str,
@@ -31,7 +33,7 @@ pub fn write_entry<S: Sink>(
     write_name(labels.names, name, out)?;
     write_field(labels.numbers, number, out)?;
     write_field(labels.places, place, out)?;
-    write_marked(text, b'\n', out)
+    write_marked(text, labels.end, out)
 }
 
 /// Writes a number of lines and a line feed, behind the file's name if that is wanted.

@@ -51,13 +51,20 @@ pub fn search_file<S: Sink, A: Allocator>(
 ) -> Result<bool, SinkError>
     ensures written { IsWritten (S.taken out.old) (S.taken out.new) (S.failures out.old) (S.failures out.new) result
         (file_text (dictionary_of searcher.now) searcher.now.folds task name.now text.now) }
-    ensures selected { IfOk result (λ b. b ≡ has_selected (dictionary_of searcher.now) searcher.now.folds task.inverts (lines_of text.now)) }
+    ensures selected { IfOk result (λ b. b ≡ has_selected (dictionary_of searcher.now) searcher.now.folds task.inverts (lines_of task.labels.end text.now)) }
 {
     match task.report {
         Report::Lines | Report::Matches => write_selected(searcher, task, name, text, out),
         Report::Count => write_selected_count(searcher, task, name, text, out),
-        Report::Name => write_selected_name(searcher, task.inverts, name, text, out),
-        Report::Nothing => Ok(any_selected(searcher, task.inverts, text)),
+        Report::Name => write_selected_name(
+            searcher,
+            task.inverts,
+            task.labels.end,
+            name,
+            text,
+            out,
+        ),
+        Report::Nothing => Ok(any_selected(searcher, task.inverts, task.labels.end, text)),
     }
 }
 
@@ -69,10 +76,10 @@ fn write_selected_count<S: Sink, A: Allocator>(
     out: &mut S,
 ) -> Result<bool, SinkError>
     ensures written { IsWritten (S.taken out.old) (S.taken out.new) (S.failures out.old) (S.failures out.new) result
-        (name_field task.labels.names name.now ++ (decimal (selected_count (dictionary_of searcher.now) searcher.now.folds task.inverts (lines_of text.now)) ++ 10 ∷ [])) }
-    ensures selected { IfOk result (λ b. b ≡ has_selected (dictionary_of searcher.now) searcher.now.folds task.inverts (lines_of text.now)) }
+        (name_field task.labels.names name.now ++ (decimal (selected_count (dictionary_of searcher.now) searcher.now.folds task.inverts (lines_of task.labels.end text.now)) ++ 10 ∷ [])) }
+    ensures selected { IfOk result (λ b. b ≡ has_selected (dictionary_of searcher.now) searcher.now.folds task.inverts (lines_of task.labels.end text.now)) }
 {
-    let count = count_selected(searcher, task.inverts, text);
+    let count = count_selected(searcher, task.inverts, task.labels.end, text);
     write_count(task.labels.names, name, count, out)?;
     Ok(count > 0)
 }
@@ -80,15 +87,16 @@ fn write_selected_count<S: Sink, A: Allocator>(
 fn write_selected_name<S: Sink, A: Allocator>(
     searcher: &Searcher<A>,
     inverts: bool,
+    mark: u8,
     name: &str,
     text: &[u8],
     out: &mut S,
 ) -> Result<bool, SinkError>
     ensures written { IsWritten (S.taken out.old) (S.taken out.new) (S.failures out.old) (S.failures out.new) result
-        (if has_selected (dictionary_of searcher.now) searcher.now.folds inverts (lines_of text.now) then name.now ++ 10 ∷ [] else []) }
-    ensures selected { IfOk result (λ b. b ≡ has_selected (dictionary_of searcher.now) searcher.now.folds inverts (lines_of text.now)) }
+        (if has_selected (dictionary_of searcher.now) searcher.now.folds inverts (lines_of mark text.now) then name.now ++ 10 ∷ [] else []) }
+    ensures selected { IfOk result (λ b. b ≡ has_selected (dictionary_of searcher.now) searcher.now.folds inverts (lines_of mark text.now)) }
 {
-    if !any_selected(searcher, inverts, text) {
+    if !any_selected(searcher, inverts, mark, text) {
         return Ok(false);
     }
     write_marked(name.as_bytes(), b'\n', out)?;
@@ -96,11 +104,16 @@ fn write_selected_name<S: Sink, A: Allocator>(
 }
 
 // How many lines are selected.
-fn count_selected<A: Allocator>(searcher: &Searcher<A>, inverts: bool, text: &[u8]) -> usize
-    ensures { result ≡ selected_count (dictionary_of searcher.now) searcher.now.folds inverts (lines_of text.now) }
+fn count_selected<A: Allocator>(
+    searcher: &Searcher<A>,
+    inverts: bool,
+    mark: u8,
+    text: &[u8],
+) -> usize
+    ensures { result ≡ selected_count (dictionary_of searcher.now) searcher.now.folds inverts (lines_of mark text.now) }
 {
     let mut count = 0usize;
-    for line in Lines::new(text) {
+    for line in Lines::new(text, mark) {
         if searcher.selects(inverts, line.bytes) {
             count += 1;
         }
@@ -109,10 +122,10 @@ fn count_selected<A: Allocator>(searcher: &Searcher<A>, inverts: bool, text: &[u
 }
 
 // Whether a line is selected.
-fn any_selected<A: Allocator>(searcher: &Searcher<A>, inverts: bool, text: &[u8]) -> bool
-    ensures { result ≡ has_selected (dictionary_of searcher.now) searcher.now.folds inverts (lines_of text.now) }
+fn any_selected<A: Allocator>(searcher: &Searcher<A>, inverts: bool, mark: u8, text: &[u8]) -> bool
+    ensures { result ≡ has_selected (dictionary_of searcher.now) searcher.now.folds inverts (lines_of mark text.now) }
 {
-    for line in Lines::new(text) {
+    for line in Lines::new(text, mark) {
         if searcher.selects(inverts, line.bytes) {
             return true;
         }
@@ -129,11 +142,11 @@ fn write_selected<S: Sink, A: Allocator>(
     out: &mut S,
 ) -> Result<bool, SinkError>
     ensures written { IsWritten (S.taken out.old) (S.taken out.new) (S.failures out.old) (S.failures out.new) result
-        (lines_text (dictionary_of searcher.now) searcher.now.folds task name.now (lines_of text.now)) }
-    ensures selected { IfOk result (λ b. b ≡ has_selected (dictionary_of searcher.now) searcher.now.folds task.inverts (lines_of text.now)) }
+        (lines_text (dictionary_of searcher.now) searcher.now.folds task name.now (lines_of task.labels.end text.now)) }
+    ensures selected { IfOk result (λ b. b ≡ has_selected (dictionary_of searcher.now) searcher.now.folds task.inverts (lines_of task.labels.end text.now)) }
 {
     let mut any = false;
-    for line in Lines::new(text) {
+    for line in Lines::new(text, task.labels.end) {
         let is_selected = write_if_selected(searcher, task, name, line, out)?;
         any = any | is_selected;
     }

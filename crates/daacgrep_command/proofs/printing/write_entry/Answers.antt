@@ -9,13 +9,13 @@ pub returns-in_err-write_name : goal.returns-in_err-write_name
 returns-in_err-write_name g c =
     let p = err_from_is_err_and c.from_residual.result c.from_residual.ensures.1 in
     let l = c.args.labels in
-    rw p.1 (then_none _ _ _ _ (name_field l.names c.args.name.now) (number_field l.numbers c.args.number ++ (number_field l.places c.args.place ++ (c.args.text.now ++ 10 ∷ []))) _ c.in_err-write_name.ensures)
+    rw p.1 (then_none _ _ _ _ (name_field l.names c.args.name.now) (number_field l.numbers c.args.number ++ (number_field l.places c.args.place ++ (c.args.text.now ++ l.end ∷ []))) _ c.in_err-write_name.ensures)
 
 pub returns-in_err-write_field : goal.returns-in_err-write_field
 returns-in_err-write_field g c =
     let p = err_from_is_err_and c.from_residual-in_err-write_field.result c.from_residual-in_err-write_field.ensures.1 in
     let l = c.args.labels in
-    let later = number_field l.places c.args.place ++ (c.args.text.now ++ 10 ∷ []) in
+    let later = number_field l.places c.args.place ++ (c.args.text.now ++ l.end ∷ []) in
     rw p.1 (then_more _ _ _ _ _ _ (name_field l.names c.args.name.now) (number_field l.numbers c.args.number ++ later) _ _ c.in_ok-write_name.ensures
     (then_none _ _ _ _ (number_field l.numbers c.args.number) later _ c.in_err-write_field.ensures))
 
@@ -23,7 +23,7 @@ pub returns-in_err-write_field-2 : goal.returns-in_err-write_field-2
 returns-in_err-write_field-2 g c =
     let p = err_from_is_err_and c.from_residual-in_err-write_field-2.result c.from_residual-in_err-write_field-2.ensures.1 in
     let l = c.args.labels in
-    let text = c.args.text.now ++ 10 ∷ [] in
+    let text = c.args.text.now ++ l.end ∷ [] in
     let places = number_field l.places c.args.place in
     rw p.1 (then_more _ _ _ _ _ _ (name_field l.names c.args.name.now) (number_field l.numbers c.args.number ++ (places ++ text)) _ _ c.in_ok-write_name.ensures
     (then_more _ _ _ _ _ _ (number_field l.numbers c.args.number) (places ++ text) _ _ c.in_ok-write_field.ensures (then_none _ _ _ _ places text _ c.in_err-write_field-2.ensures)))
@@ -31,7 +31,7 @@ returns-in_err-write_field-2 g c =
 pub returns : goal.returns
 returns g c =
     let l = c.args.labels in
-    let text = c.args.text.now ++ 10 ∷ [] in
+    let text = c.args.text.now ++ l.end ∷ [] in
     let places = number_field l.places c.args.place in
     then_more _ _ _ _ _ _ (name_field l.names c.args.name.now) (number_field l.numbers c.args.number ++ (places ++ text)) _ _ c.in_ok-write_name.ensures
     (then_more _ _ _ _ _ _ (number_field l.numbers c.args.number) (places ++ text) _ _ c.in_ok-write_field.ensures (then_more _ _ _ _ _ _ places text _ _ c.in_ok-write_field-2.ensures c.write_marked.ensures))

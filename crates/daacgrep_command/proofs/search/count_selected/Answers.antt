@@ -10,5 +10,5 @@ loop-line-init g c =
     let begins = c.into_iter-line-iterator.ensures.into_iter_gives ∙ c.new-line-items.ensures in
     record {
       counted = ap (selected_count (dictionary_of c.args.searcher.now) c.args.searcher.now.folds c.args.inverts) (sym begins) ∙ sym (zero-add _);
-      few = omega (arith, ap length begins, lines_few c.args.text.now);
+      few = omega (arith, ap length begins, lines_few c.args.mark c.args.text.now);
     }

@@ -7,6 +7,6 @@ use Rattle.daacgrep_command.proofs.search.count_selected.Given as goal
 
 abbrev pub invariant-loop-line : goal.invariant-loop-line
 invariant-loop-line g l = record {
-  counted : selected_count (dictionary_of l.fn.searcher) l.fn.searcher.folds l.fn.inverts (lines_of l.fn.text) ≡ l.count + selected_count (dictionary_of l.fn.searcher) l.fn.searcher.folds l.fn.inverts l.line-iterator;
+  counted : selected_count (dictionary_of l.fn.searcher) l.fn.searcher.folds l.fn.inverts (lines_of l.fn.mark l.fn.text) ≡ l.count + selected_count (dictionary_of l.fn.searcher) l.fn.searcher.folds l.fn.inverts l.line-iterator;
   few : l.count + length l.line-iterator ≤ length l.fn.text;
 }

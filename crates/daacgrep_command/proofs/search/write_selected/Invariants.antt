@@ -9,8 +9,8 @@ use Rattle.daacgrep_command.proofs.search.write_selected.Given as goal
 abbrev pub invariant-loop-line : goal.invariant-loop-line
 invariant-loop-line g l = record {
   sent : List ℕ;
-  is : lines_text (dictionary_of l.fn.searcher) l.fn.searcher.folds l.fn.task l.fn.name (lines_of l.fn.text) ≡ sent ++ lines_text (dictionary_of l.fn.searcher) l.fn.searcher.folds l.fn.task l.fn.name l.line-iterator;
-  selected : has_selected (dictionary_of l.fn.searcher) l.fn.searcher.folds l.fn.task.inverts (lines_of l.fn.text) ≡ (l.any || has_selected (dictionary_of l.fn.searcher) l.fn.searcher.folds l.fn.task.inverts l.line-iterator);
+  is : lines_text (dictionary_of l.fn.searcher) l.fn.searcher.folds l.fn.task l.fn.name (lines_of l.fn.task.labels.end l.fn.text) ≡ sent ++ lines_text (dictionary_of l.fn.searcher) l.fn.searcher.folds l.fn.task l.fn.name l.line-iterator;
+  selected : has_selected (dictionary_of l.fn.searcher) l.fn.searcher.folds l.fn.task.inverts (lines_of l.fn.task.labels.end l.fn.text) ≡ (l.any || has_selected (dictionary_of l.fn.searcher) l.fn.searcher.folds l.fn.task.inverts l.line-iterator);
   written : Appends (g.S.Sink.taken l.fn.out) (g.S.Sink.taken l.out) sent;
   unfailed : g.S.Sink.failures l.out ≡ g.S.Sink.failures l.fn.out;
 }

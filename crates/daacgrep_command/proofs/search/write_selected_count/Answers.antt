@@ -17,4 +17,4 @@ returns-in_err-write_count-clause-written g c =
 pub returns-clause-selected : goal.returns-clause-selected
 returns-clause-selected g c =
     let selects : TextLine → Bool = λ line. is_selected (dictionary_of c.args.searcher.now) c.args.searcher.now.folds c.args.task.inverts line.bytes in
-    ap (nat_lt 0) c.count_selected-count.ensures ∙ count_some selects (lines_of c.args.text.now)
+    ap (nat_lt 0) c.count_selected-count.ensures ∙ count_some selects (lines_of c.args.task.labels.end c.args.text.now)

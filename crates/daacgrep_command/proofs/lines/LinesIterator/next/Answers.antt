@@ -1,8 +1,7 @@
 -- The first line is taken off.
 use Rattle.std.proofs.Common.{◌≡◌, ℕ, ◌+◌, ◌<◌, ◌==◌, Bool, false, List, [], ◌∷◌, length, take, refl, sym, ap, ◌∙◌, arith}
 use Rattle.std.proofs.lemmas.List.{take_rest}
-use Rattle.daachorse_model.specs.Program.{pattern_lines}
-use Rattle.daacgrep_command.specs.Lines.{lines_from}
+use Rattle.daacgrep_command.specs.Lines.{lines_from, pieces_of}
 use Rattle.daacgrep_command.proofs.Cuts.{lines_first}
 use Rattle.daacgrep_command.proofs.lines.LinesIterator.next.Goals as goal
 
@@ -16,8 +15,8 @@ returns-clause-steps c =
     let l = c.first_line-len in
     let some = not_empty s.rest.now c.is_empty.result c.is_empty.ensures c.if-is_empty.false in
     sym c.self.view_is
-    ∙ lines_first s.given s.start s.rest.now l.result.0 l.result.1 l.ensures.len some l.ensures.end
-    ∙ ap (λ text. record { number = s.given + 1; start = s.start; bytes = take l.result.0 s.rest.now } ∷ lines_from (s.given + 1) (s.start + l.result.1) (pattern_lines text)) (sym (take_rest s.rest.now l.result.1))
+    ∙ lines_first s.mark s.given s.start s.rest.now l.result.0 l.result.1 l.ensures.len some l.ensures.end
+    ∙ ap (λ text. record { number = s.given + 1; start = s.start; bytes = take l.result.0 s.rest.now } ∷ lines_from (s.given + 1) (s.start + l.result.1) (pieces_of s.mark text)) (sym (take_rest s.rest.now l.result.1))
 
 pub returns-clause-goes : goal.returns-clause-goes
 returns-clause-goes c =

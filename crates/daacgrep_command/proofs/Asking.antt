@@ -1,0 +1,316 @@
+-- Files that are asked for one after the other, and how an attempt ends.
+use Rattle.std.proofs.Common.{◌≡◌, ℕ, ◌+◌, ◌<◌, ◌==◌, ◌||◌, ◌⊎◌, inl, inr, length, Bool, true, false, not, nat_lt, Option, Some, None, Result, Ok, Err, List, [], ◌∷◌, ◌++◌, map, flat_map, take, drop, get_or, drop-cons, add-one, take-append-drop, refl, ap, sym, subst, ◌∙◌, append_assoc, append-nil}
+use Rattle.std.proofs.KnownBytes.{Appends-nil}
+use Rattle.std.proofs.lemmas.Grind.{flat_map-append}
+use Rattle.std.proofs.lemmas.List.{map-append, take_more}
+use Rattle.std.proofs.lemmas.List.Elements.{All-append, All-cons, All-nil}
+use Rattle.std.proofs.lemmas.List.Folds.{list_any-append}
+use Rattle.std.specs.Prelude.{IfOk, is_none}
+use Rattle.std.specs.Borrow.{Bor}
+use Rattle.std.specs.List.{list_any}
+use Rattle.std.specs.Io.KnownBytes.{Appends, Keeps}
+use Rattle.daachorse_model.specs.Dictionary.{Dictionary, dictionary}
+use Rattle.daachorse_model.specs.declared.MatchKind.{MatchKind}
+use Rattle.daachorse_model.specs.Folding.{texts_as_read}
+use Rattle.daachorse_model.specs.Program.{pattern_lines, with_numbers}
+use Rattle.daachorse_bytewise.specs.Automata.{Automaton, dictionary_of}
+use Rattle.daachorse_bytewise.specs.Building.{IsBuiltOf}
+use Rattle.daachorse_bytewise.specs.Patterns.{AreIndexed}
+use Rattle.daachorse_bytewise.specs.Replaced.{AppendsBeginning}
+use Rattle.daacfind_command.specs.Commands.{Tells}
+use Rattle.daacfind_command.specs.Runs.{IsWritten, value_gives}
+use Rattle.daacgrep_command.specs.declared.files.Outcome.{Outcome}
+use Rattle.daacgrep_command.specs.declared.options.Role.TheVariants.{Any}
+use Rattle.daacgrep_command.specs.declared.search.Task.{Task}
+use Rattle.daacgrep_command.specs.declared.flag.Flag.{Flag}
+use Rattle.daacgrep_command.specs.declared.flag.Flag.TheVariants.{Help, IgnoreCase, Quiet, Version}
+use Rattle.daacgrep_command.specs.Flags.{asks}
+use Rattle.daacgrep_command.specs.Lines.{TextLine, lines_from}
+use Rattle.daacgrep_command.specs.Options.{Asked, AreKnown, options_of, requests}
+use Rattle.daacgrep_command.specs.Asked.{AreFilesOf, AreSearched, Ends, EndsBy, GivenFile, GivesPatterns, HasRead, IsCutOff, IsForPatterns, IsSearch, IsSearched, both, closed_file, dictionary_asked, files_text, has_unread, kind_asked, names_asked, outcome_of, pattern_text, selects_of, shown, status_of, status_of_outcome, task_of, tells_of_itself, text_of_file}
+use Rattle.daacgrep_command.specs.Printed.{file_text}
+use Rattle.daacgrep_command.proofs.Writing.{flushed, then_more, then_none, unflushed}
+
+-- what was written whole is so with any value
+so_ended : {T U E : Type 0} {a b : Option (List ℕ)} {f g : ℕ} {x : T} {t : List ℕ} (y : U) → IsWritten {T = T} {E = E} a b f g (Ok x) t → IsWritten {T = U} {E = E} a b f g (Ok y) t
+so_ended y w = record { whole = w.whole; unfailed = w.unfailed; beginning = tt; failed = tt }
+
+abbrev Files : Type 0
+Files = Option (List ℕ → Option (List ℕ))
+
+-- no file, one, and files one after the other
+pub files_none : (given : Files) → AreFilesOf given [] []
+files_none given = record { named = refl; told = All-nil (λ (f : GivenFile). Tells given f.name f.bytes) }
+
+pub file_one : (given : Files) (name : List ℕ) (bytes : Option (List ℕ)) → Tells given name bytes → AreFilesOf given (name ∷ []) (record { name = name; bytes = bytes } ∷ [])
+file_one given name bytes t =
+    let P : GivenFile → Type 0 = λ f. Tells given f.name f.bytes in
+    record { named = refl; told = All-cons P (record { name = name; bytes = bytes }) [] t (All-nil P) }
+
+pub files_then : (given : Files) (names more : List (List ℕ)) (files later : List GivenFile) → AreFilesOf given names files → AreFilesOf given more later → AreFilesOf given (names ++ more) (files ++ later)
+files_then given names more files later p q = record {
+  named = map-append (λ (f : GivenFile). f.name) files later ∙ ap (λ l. l ++ map (λ (f : GivenFile). f.name) later) p.named ∙ ap (λ l. names ++ l) q.named;
+  told = All-append (λ (f : GivenFile). Tells given f.name f.bytes) files later p.told q.told;
+}
+
+bytes_told : (given : Files) (name : List ℕ) → (bytes : Option (List ℕ)) × Tells given name bytes
+bytes_told None name = (None, tt)
+bytes_told (Some f) name = (f name, refl)
+
+-- there are files of any names
+pub files_of_all : (given : Files) (names : List (List ℕ)) → (files : List GivenFile) × AreFilesOf given names files
+files_of_all given [] = ([], files_none given)
+files_of_all given (name ∷ names) =
+    let first = bytes_told given name in
+    let later = files_of_all given names in
+    (record { name = name; bytes = first.0 } ∷ later.0, files_then given (name ∷ []) names _ later.0 (file_one given name first.0 first.1) later.1)
+
+-- one file more was read
+pub read_more : (given : Files) (names : List (List ℕ)) (name bytes old mid new : List ℕ) → HasRead given names old mid → Tells given name (Some bytes) → new ≡ mid ++ closed_file (record { name = name; bytes = Some bytes })
+    → HasRead given (names ++ name ∷ []) old new
+read_more given names name bytes old mid new h t e =
+    let file : GivenFile = record { name = name; bytes = Some bytes } in
+    record {
+      files = h.files ++ file ∷ [];
+      are_files = files_then given names (name ∷ []) h.files _ h.are_files (file_one given name (Some bytes) t);
+      are_read = list_any-append (λ (f : GivenFile). is_none f.bytes) h.files (file ∷ []) ∙ ap (λ b. b || false) h.are_read;
+      added = e ∙ ap (λ l. l ++ closed_file file) h.added ∙ append_assoc old (flat_map closed_file h.files) (closed_file file)
+          ∙ ap (λ l. old ++ (flat_map closed_file h.files ++ l)) (sym (append-nil (closed_file file))) ∙ ap (λ l. old ++ l) (sym (flat_map-append closed_file h.files (file ∷ [])));
+    }
+
+pub read_none : (given : Files) (old : List ℕ) → HasRead given [] old old
+read_none given old = record { files = []; are_files = files_none given; are_read = refl; added = sym (append-nil old) }
+
+module _ (K : Dictionary ℕ) (folds : Bool) (task : Task) where
+  outcome_append : (files later : List GivenFile) → outcome_of K folds task (files ++ later) ≡ both (outcome_of K folds task files) (outcome_of K folds task later)
+  outcome_append files later =
+      let a = list_any-append (selects_of K folds task) files later in
+      let b = list_any-append (λ (f : GivenFile). is_none f.bytes) files later in cc
+
+  module _ {E : Type 0} (given : Files) (a b c : Option (List ℕ)) (f g h : ℕ) where
+    -- more files were searched
+    pub searched_then : (names more : List (List ℕ)) (o p : Outcome) → AreSearched K folds task given names {E = E} a b f g (Ok o) → AreSearched K folds task given more {E = E} b c g h (Ok p)
+        → AreSearched K folds task given (names ++ more) {E = E} a c f h (Ok (both o p))
+    searched_then names more o p v w = record {
+      files = v.files ++ w.files;
+      are_files = files_then given names more v.files w.files v.are_files w.are_files;
+      written = subst (λ t. IsWritten {T = Outcome} {E = E} a c f h (Ok (both o p)) t) (sym (flat_map-append (text_of_file K folds task) v.files w.files))
+          (so_ended (both o p) (then_more a b c f g h (files_text K folds task v.files) (files_text K folds task w.files) o (Ok p) v.written w.written));
+      outcome = ap (λ x. both x p) v.outcome ∙ ap (both (outcome_of K folds task v.files)) w.outcome ∙ sym (outcome_append v.files w.files);
+    }
+
+    -- the search of some files failed, and others were left
+    pub searched_cut : (names more rest : List (List ℕ)) (o : Outcome) (e : E) → AreSearched K folds task given names {E = E} a b f g (Ok o) → AreSearched K folds task given more {E = E} b c g h (Err e)
+        → AreSearched K folds task given (names ++ (more ++ rest)) {E = E} a c f h (Err e)
+    searched_cut names more rest o e v w =
+        let left = files_of_all given rest in
+        let T = files_text K folds task in
+        let here = then_none {U = Outcome} {E = E} b c g h (T w.files) (T left.0) e w.written in
+        let all = then_more {U = Outcome} {E = E} a b c f g h (T v.files) (T w.files ++ T left.0) o (Err e) v.written here in
+        let joined : T (v.files ++ (w.files ++ left.0)) ≡ T v.files ++ (T w.files ++ T left.0) =
+        flat_map-append (text_of_file K folds task) v.files (w.files ++ left.0) ∙ ap (λ l. T v.files ++ l) (flat_map-append (text_of_file K folds task) w.files left.0) in
+        record {
+          files = v.files ++ (w.files ++ left.0);
+          are_files = files_then given names (more ++ rest) v.files _ v.are_files (files_then given more rest w.files left.0 w.are_files left.1);
+          written = subst (λ t. IsWritten {T = Outcome} {E = E} a c f h (Err e) t) (sym joined) all;
+          outcome = tt;
+        }
+
+-- the lines' bytes are the pieces
+pub lines_bytes : (before start : ℕ) (pieces : List (List ℕ)) → map (λ (l : TextLine). l.bytes) (lines_from before start pieces) ≡ pieces
+lines_bytes before start [] = refl
+lines_bytes before start (p ∷ ps) = ap (λ l. p ∷ l) (lines_bytes (before + 1) (start + length p + 1) ps)
+
+numbered_of : (i : ℕ) (texts : List (List ℕ)) (rs : List (List ℕ × ℕ)) → AreIndexed value_gives i texts rs → rs ≡ with_numbers i texts
+numbered_of i [] [] h = refl
+numbered_of i [] ((u, v) ∷ rs) h = absurd h
+numbered_of i (t ∷ ts) [] h = absurd h
+numbered_of i (t ∷ ts) ((u, v) ∷ rs) h = let first = h.1.1 in let rest = numbered_of (i + 1) ts rs h.2 in cc (first, rest, h.0)
+
+-- what is built of the patterns that are asked for holds them
+pub built_for : (asked : Asked) (given : Files) (text : List ℕ) (kind : MatchKind) (folds : Bool) (texts : List (List ℕ)) (a : Automaton ℕ) → GivesPatterns asked given text
+    → texts ≡ pattern_lines text → kind ≡ kind_asked asked.flags → folds ≡ asks IgnoreCase asked.flags → IsBuiltOf value_gives kind folds texts a → IsForPatterns asked given a
+built_for asked given text kind folds texts a gives are_lines is_kind is_fold h =
+    let held : dictionary_of a ≡ dictionary kind (texts_as_read folds h.0) = λ i w. h.2.holds w i in
+    record {
+      files = gives.files;
+      are_files = gives.are_files;
+      are_read = gives.are_read;
+      holds = held ∙ ap (λ l. dictionary kind (texts_as_read folds l)) (numbered_of 0 texts h.0 h.1)
+          ∙ ap (λ l. dictionary kind (texts_as_read folds (with_numbers 0 l))) (are_lines ∙ ap pattern_lines gives.is)
+          ∙ ap (λ k. dictionary k (texts_as_read folds (with_numbers 0 (pattern_lines (pattern_text asked.patterns gives.files))))) is_kind
+          ∙ ap (λ b. dictionary (kind_asked asked.flags) (texts_as_read b (with_numbers 0 (pattern_lines (pattern_text asked.patterns gives.files))))) is_fold;
+      folds = h.2.folds ∙ is_fold;
+    }
+
+module _ (asked : Asked) (given : Files) where
+  -- a search for what is asked for
+  search_of : (s : Automaton ℕ) (files : List GivenFile) → IsForPatterns asked given s → AreFilesOf given (names_asked asked.files) files
+      → IsSearch asked given (files_text (dictionary_of s) s.folds (task_of asked) files) (status_of_outcome (asks Quiet asked.flags) (outcome_of (dictionary_of s) s.folds (task_of asked) files))
+  search_of s files p q = record {
+    pattern_files = p.files;
+    are_pattern_files = p.are_files;
+    are_read = p.are_read;
+    files = files;
+    are_files = q;
+    text_is = ap (λ K. files_text K s.folds (task_of asked) files) p.holds ∙ ap (λ b. files_text (dictionary_asked asked p.files) b (task_of asked) files) p.folds;
+    status_is = ap (λ K. status_of_outcome (asks Quiet asked.flags) (outcome_of K s.folds (task_of asked) files)) p.holds
+        ∙ ap (λ b. status_of_outcome (asks Quiet asked.flags) (outcome_of (dictionary_asked asked p.files) b (task_of asked) files)) p.folds;
+  }
+
+module _ {E : Type 0} (asked : Asked) (given : Files) (a b : Option (List ℕ)) (f g : ℕ) where
+  -- the usage or the version was told
+  pub ends_told : (r : Result ℕ E) (text : List ℕ) → tells_of_itself asked ≡ true → IsWritten {T = ℕ} {E = E} a b f g r text → IfOk r (λ s. s ≡ 0) → Ends asked given a b f g r
+  ends_told (Ok s) text t w e = record { text = text; is_answer = inl (t, e); written = w.whole; unfailed = w.unfailed }
+  ends_told (Err x) text t w e = inr (record { text = text; status = 0; is_answer = inl (t, refl); written = w.beginning; failed = w.failed })
+
+  -- the files were searched
+  pub ends_searched : (s : Automaton ℕ) (r : Result ℕ E) → tells_of_itself asked ≡ false → IsForPatterns asked given s → IsSearched (dictionary_of s) s.folds asked given {E = E} a b f g r → Ends asked given a b f g r
+  ends_searched s (Ok n) t p h = record {
+    text = files_text (dictionary_of s) s.folds (task_of asked) h.files;
+    is_answer = inr (t, subst (IsSearch asked given (files_text (dictionary_of s) s.folds (task_of asked) h.files)) (sym h.status) (search_of asked given s h.files p h.are_files));
+    written = h.written.whole;
+    unfailed = h.written.unfailed;
+  }
+  ends_searched s (Err x) t p h = inr (record {
+    text = files_text (dictionary_of s) s.folds (task_of asked) h.files;
+    status = status_of_outcome (asks Quiet asked.flags) (outcome_of (dictionary_of s) s.folds (task_of asked) h.files);
+    is_answer = inr (t, search_of asked given s h.files p h.are_files);
+    written = h.written.beginning;
+    failed = h.written.failed;
+  })
+
+module _ {E : Type 0} (K : Dictionary ℕ) (folds : Bool) (asked : Asked) (given : Files) (task : Task) (names : List (List ℕ)) (is_task : task ≡ task_of asked) (are_names : names ≡ names_asked asked.files) (a b : Option (List ℕ)) (f g : ℕ) where
+  -- a search as it was asked for
+  as_asked : (r : Result Outcome E) → AreSearched K folds task given names {E = E} a b f g r → AreSearched K folds (task_of asked) given (names_asked asked.files) {E = E} a b f g r
+  as_asked r w = subst (λ t. AreSearched K folds t given (names_asked asked.files) {E = E} a b f g r) is_task (subst (λ ns. AreSearched K folds task given ns {E = E} a b f g r) are_names w)
+
+  -- it failed; or it ended, and the flush failed; or both did their work
+  pub search_failed : {F : Type 0} (e : E) (x : F) → AreSearched K folds task given names {E = E} a b f g (Err e) → IsSearched K folds asked given {E = F} a b f g (Err x)
+  search_failed {F} e x w =
+      let v = as_asked (Err e) w in
+      record { files = v.files; are_files = v.are_files; written = record { whole = tt; unfailed = tt; beginning = v.written.beginning; failed = v.written.failed }; status = tt }
+
+  pub search_unflushed : {F : Type 0} (c : Option (List ℕ)) (h : ℕ) (o : Outcome) (x : F) → AreSearched K folds task given names {E = E} a b f g (Ok o) → Keeps b c → h ≡ g + 1 → IsSearched K folds asked given {E = F} a c f h (Err x)
+  search_unflushed {F} c h o x w kept more =
+      let v = as_asked (Ok o) w in
+      record { files = v.files; are_files = v.are_files; written = unflushed {T = Outcome} {U = ℕ} {E = E} {F = F} a b c f g h _ o x v.written kept more; status = tt }
+
+  pub search_done : {F : Type 0} (c : Option (List ℕ)) (h : ℕ) (o : Outcome) (quiet : Bool) (n : ℕ) → AreSearched K folds task given names {E = E} a b f g (Ok o) → Keeps b c → h ≡ g → quiet ≡ asks Quiet asked.flags → n ≡ status_of_outcome quiet o
+      → IsSearched K folds asked given {E = F} a c f h (Ok n)
+  search_done {F} c h o quiet n w kept same is_quiet is =
+      let v = as_asked (Ok o) w in
+      record {
+        files = v.files;
+        are_files = v.are_files;
+        written = flushed {T = Outcome} {U = ℕ} {E = E} {F = F} a b c f g h _ o n v.written kept same;
+        status = is ∙ ap (λ q. status_of_outcome q o) is_quiet ∙ ap (status_of_outcome (asks Quiet asked.flags)) v.outcome;
+      }
+
+-- how an attempt ends tells what its status says
+pub ends_by : {E : Type 0} (words : List (List ℕ)) (asked : Asked) (given : Files) (a b : Option (List ℕ)) (f g : ℕ) (r : Result ℕ E) → AreKnown (requests Any words) → asked ≡ options_of (requests Any words)
+    → Ends asked given a b f g r → EndsBy words given a b f g (status_of r)
+ends_by {E} words asked given a b f g (Ok n) known is h = inl (known, subst (λ o. Ends o given a b f g {E = E} (Ok n)) is h)
+ends_by {E} words asked given a b f g (Err x) known is (inl kept) = inr (refl, inl kept)
+ends_by {E} words asked given a b f g (Err x) known is (inr cut) = inr (refl, inr (known, subst (λ o. IsCutOff o given a b f g) is cut))
+
+module _ (texts : List (Bor (List ℕ))) (i : ℕ) (d : Bor (List ℕ)) (h : i < length texts) where
+  -- one name more
+  pub names_more : map (λ n. n.now) (take (i + 1) texts) ≡ map (λ n. n.now) (take i texts) ++ (get_or texts i d).now ∷ []
+  names_more = ap (map (λ (n : Bor (List ℕ)). n.now)) (take_more texts i d h) ∙ map-append (λ (n : Bor (List ℕ)). n.now) (take i texts) (get_or texts i d ∷ [])
+
+  -- this name, and those before and behind it
+  pub names_split : map (λ n. n.now) texts ≡ map (λ n. n.now) (take i texts) ++ ((get_or texts i d).now ∷ [] ++ map (λ n. n.now) (drop (i + 1) texts))
+  names_split =
+      let e : drop i texts ≡ get_or texts i d ∷ drop (i + 1) texts = rw (add-one) (drop-cons texts i d h) in
+      ap (map (λ (n : Bor (List ℕ)). n.now)) (sym (take-append-drop i texts) ∙ ap (λ l. take i texts ++ l) e) ∙ map-append (λ (n : Bor (List ℕ)). n.now) (take i texts) (get_or texts i d ∷ drop (i + 1) texts)
+
+  -- one pattern more
+  pub patterns_more : flat_map (λ p. p ++ 10 ∷ []) (map (λ n. n.now) (take (i + 1) texts)) ≡ flat_map (λ p. p ++ 10 ∷ []) (map (λ n. n.now) (take i texts)) ++ ((get_or texts i d).now ++ 10 ∷ [])
+  patterns_more =
+      let F : List ℕ → List ℕ = λ p. p ++ 10 ∷ [] in
+      ap (flat_map F) names_more ∙ flat_map-append F (map (λ (n : Bor (List ℕ)). n.now) (take i texts)) ((get_or texts i d).now ∷ [])
+      ∙ ap (λ l. flat_map F (map (λ (n : Bor (List ℕ)). n.now) (take i texts)) ++ l) (append-nil (F (get_or texts i d).now))
+
+-- what stands in place of a name behind the last
+unfoldable pub name_at_end : Bor (List ℕ)
+name_at_end = record { ref_ptr = (0, 0); now = [] }
+
+-- a line more was taken, and none is left
+pub line_taken : (vs ws : List (Bor (List ℕ))) (b : Bor (List ℕ)) (t : TextLine) (ls ms : List TextLine) (all : List (List ℕ)) → map (λ v. v.now) vs ++ map (λ l. l.bytes) ls ≡ all → ls ≡ t ∷ ms → t.bytes ≡ b.now → ws ≡ vs ++ b ∷ []
+    → map (λ v. v.now) ws ++ map (λ l. l.bytes) ms ≡ all
+line_taken vs ws b t ls ms all e is same pushed =
+    let N : List (Bor (List ℕ)) → List (List ℕ) = map (λ (v : Bor (List ℕ)). v.now) in
+    let B : List TextLine → List (List ℕ) = map (λ (l : TextLine). l.bytes) in
+    ap (λ l. N l ++ B ms) pushed ∙ ap (λ l. l ++ B ms) (map-append (λ (v : Bor (List ℕ)). v.now) vs (b ∷ [])) ∙ append_assoc (N vs) (b.now ∷ []) (B ms)
+    ∙ ap (λ x. N vs ++ (x ∷ B ms)) (sym same) ∙ ap (λ l. N vs ++ B l) (sym is) ∙ e
+
+pub lines_taken : (vs : List (Bor (List ℕ))) (ls : List TextLine) (all : List (List ℕ)) → map (λ v. v.now) vs ++ map (λ l. l.bytes) ls ≡ all → ls ≡ [] → map (λ v. v.now) vs ≡ all
+lines_taken vs ls all e none = sym (append-nil (map (λ (v : Bor (List ℕ)). v.now) vs)) ∙ ap (λ l. map (λ (v : Bor (List ℕ)). v.now) vs ++ map (λ (t : TextLine). t.bytes) l) (sym none) ∙ e
+
+or_false : (b : Bool) → (b || false) ≡ b
+or_false true = refl
+or_false false = refl
+
+module _ (K : Dictionary ℕ) (folds : Bool) (task : Task) (given : Files) where
+  -- no file was searched
+  pub searched_none : {E : Type 0} (a : Option (List ℕ)) (f : ℕ) → AreSearched K folds task given [] {E = E} a a f f (Ok (record { selected = false; trouble = false }))
+  searched_none a f = record { files = []; are_files = files_none given; written = record { whole = Appends-nil a; unfailed = refl; beginning = tt; failed = tt }; outcome = refl }
+
+  -- one file was searched: writing failed, or did not
+  module _ (a b : Option (List ℕ)) (f g : ℕ) (name bytes : List ℕ) (n t : List ℕ) (told : Tells given name (Some bytes)) (named : n ≡ shown name) (read : t ≡ bytes) where
+    text_one : file_text K folds task n t ≡ files_text K folds task (record { name = name; bytes = Some bytes } ∷ [])
+    text_one = ap (λ m. file_text K folds task m t) named ∙ ap (file_text K folds task (shown name)) read ∙ sym (append-nil (file_text K folds task (shown name) bytes))
+
+    pub one_failed : {E T D : Type 0} (d : D) (e : E) → IsWritten {T = T} {E = D} a b f g (Err d) (file_text K folds task n t) → AreSearched K folds task given (name ∷ []) {E = E} a b f g (Err e)
+    one_failed d e w = record {
+      files = record { name = name; bytes = Some bytes } ∷ [];
+      are_files = file_one given name (Some bytes) told;
+      written = record { whole = tt; unfailed = tt; beginning = subst (AppendsBeginning a b) text_one w.beginning; failed = w.failed };
+      outcome = tt;
+    }
+
+    pub one_searched : {E : Type 0} (s : Bool) → IsWritten {T = Bool} {E = E} a b f g (Ok s) (file_text K folds task n t) → s ≡ selects_of K folds task (record { name = name; bytes = Some t })
+        → AreSearched K folds task given (name ∷ []) {E = E} a b f g (Ok (record { selected = s; trouble = false }))
+    one_searched s w is = record {
+      files = record { name = name; bytes = Some bytes } ∷ [];
+      are_files = file_one given name (Some bytes) told;
+      written = record { whole = subst (Appends a b) text_one w.whole; unfailed = w.unfailed; beginning = tt; failed = tt };
+      outcome = ap (λ x. record { selected = x; trouble = false }) (is ∙ ap (λ x. selects_of K folds task (record { name = name; bytes = Some x })) read ∙ sym (or_false (selects_of K folds task (record { name = name; bytes = Some bytes }))));
+    }
+
+  -- a file could not be read
+  pub one_unread : {E : Type 0} (a : Option (List ℕ)) (f : ℕ) (name : List ℕ) → Tells given name None → AreSearched K folds task given (name ∷ []) {E = E} a a f f (Ok (record { selected = false; trouble = true }))
+  one_unread a f name told = record {
+    files = record { name = name; bytes = None } ∷ [];
+    are_files = file_one given name None told;
+    written = record { whole = Appends-nil a; unfailed = refl; beginning = tt; failed = tt };
+    outcome = refl;
+  }
+
+-- the patterns that were given, and those of files
+pub gives_patterns : (asked : Asked) (given : Files) (patterns names : List (List ℕ)) (t u v : List ℕ) → t ≡ [] → patterns ≡ asked.patterns → names ≡ asked.pattern_files → u ≡ t ++ flat_map (λ p. p ++ 10 ∷ []) patterns
+    → HasRead given names u v → GivesPatterns asked given v
+gives_patterns asked given patterns names t u v none are_patterns are_names added h =
+    let F : List ℕ → List ℕ = λ p. p ++ 10 ∷ [] in
+    let first : u ≡ flat_map F asked.patterns = added ∙ ap (λ l. l ++ flat_map F patterns) none ∙ ap (flat_map F) are_patterns in
+    record {
+      files = h.files;
+      are_files = subst (λ ns. AreFilesOf given ns h.files) are_names h.are_files;
+      are_read = h.are_read;
+      is = h.added ∙ ap (λ l. l ++ flat_map closed_file h.files) first;
+    }
+
+module _ (flags : List Flag) where
+  abbrev Told : Bool
+  Told = asks Help flags || asks Version flags
+
+  -- what is asked of itself
+  pub tells_usage : (a : Bool) → a ≡ asks Help flags → a ≡ true → Told ≡ true
+  tells_usage a e t = ap (λ b. b || asks Version flags) (sym e ∙ t)
+
+  pub tells_version : (a b : Bool) → a ≡ asks Help flags → a ≡ false → b ≡ asks Version flags → b ≡ true → Told ≡ true
+  tells_version a b e f d t = ap (λ x. x || asks Version flags) (sym e ∙ f) ∙ sym d ∙ t
+
+  pub tells_nothing : (a b : Bool) → a ≡ asks Help flags → a ≡ false → b ≡ asks Version flags → b ≡ false → Told ≡ false
+  tells_nothing a b e f d t = ap (λ x. x || asks Version flags) (sym e ∙ f) ∙ sym d ∙ t

@@ -1,0 +1,210 @@
+-- What the words of a command line and the files that they name come to: a text, and a status.
+use Rattle.std.specs.Prelude.{◌≡◌, ◌⊎◌, ◌+◌, ◌-◌, ◌<◌, ◌==◌, ◌&&◌, ◌||◌, Bool, true, false, not, nat_lt, ℕ, List, [], ◌∷◌, ◌++◌, Option, Some, None, Result, Ok, Err, All, codes, flat_map, is_none, length, map, slice_index, unwrap_or, if◌then◌else◌, IfOk}
+use Rattle.std.specs.Option.{option_map}
+use Rattle.std.specs.Io.KnownBytes.{Appends, Keeps}
+use Rattle.std.specs.List.{list_any}
+use Rattle.daachorse_model.specs.declared.MatchKind.{MatchKind}
+use Rattle.daachorse_model.specs.declared.MatchKind.TheVariants.{LeftmostLongest, LeftmostFirst}
+use Rattle.daachorse_model.specs.Dictionary.{Dictionary, dictionary}
+use Rattle.daachorse_model.specs.Folding.{texts_as_read}
+use Rattle.daachorse_model.specs.Program.{pattern_lines, with_numbers}
+use Rattle.daachorse_model.specs.Units.{same_text}
+use Rattle.daachorse_bytewise.specs.Automata.{Automaton, dictionary_of}
+use Rattle.daachorse_bytewise.specs.Replaced.{AppendsBeginning}
+use Rattle.daacfind_command.specs.Commands.{Tells}
+use Rattle.daacfind_command.specs.Runs.{IsWritten}
+use Rattle.daacgrep_command.specs.declared.flag.Flag.{Flag}
+use Rattle.daacgrep_command.specs.declared.flag.Flag.TheVariants.{WithName, NoName, OnlyMatches, Places, Numbers, Count as Counts, FileNames, Quiet, IgnoreCase, Invert, NullData, First, Help, Version}
+use Rattle.daacgrep_command.specs.declared.files.Outcome.{Outcome}
+use Rattle.daacgrep_command.specs.declared.options.Role.TheVariants.{Any}
+use Rattle.daacgrep_command.specs.declared.search.Report.{Report}
+use Rattle.daacgrep_command.specs.declared.search.Report.TheVariants.{Lines, Matches, Count, Name, Nothing}
+use Rattle.daacgrep_command.specs.declared.search.Task.{Task}
+use Rattle.daacgrep_command.specs.Flags.{asks}
+use Rattle.daacgrep_command.specs.Lines.{lines_of}
+use Rattle.daacgrep_command.specs.Options.{Asked, AreKnown, options_of, requests}
+use Rattle.daacgrep_command.specs.Printed.{file_text, has_selected}
+
+-- a file that was asked for: its name, and its bytes, or none where it cannot be read
+pub record GivenFile : Type 0 where
+  pub name : List ℕ
+  pub bytes : Option (List ℕ)
+
+-- these are the files of these names
+pub record AreFilesOf (given : Option (List ℕ → Option (List ℕ))) (names : List (List ℕ)) (files : List GivenFile) : Type 0 where
+  pub named : map (λ f. f.name) files ≡ names
+  pub told : All (λ f. Tells given f.name f.bytes) files
+
+-- one of them cannot be read
+abbrev pub has_unread : List GivenFile → Bool
+has_unread files = list_any (λ f. is_none f.bytes) files
+
+-- how the matches are found: the longest at each start, or the first of the patterns
+abbrev pub kind_asked : List Flag → MatchKind
+kind_asked flags = if asks First flags then LeftmostFirst else LeftmostLongest
+
+-- what is written of each file
+abbrev pub report_asked : List Flag → Report
+report_asked flags =
+    if asks Quiet flags then Nothing
+    else (if asks FileNames flags then Name
+    else (if asks Counts flags then Count
+    else (if asks OnlyMatches flags then Matches else Lines)))
+
+-- the byte that ends lines
+abbrev pub end_asked : List Flag → ℕ
+end_asked flags = if asks NullData flags then 0 else 10
+
+-- how files are searched, of which there may be several
+abbrev pub task_asked : List Flag → Bool → Task
+task_asked flags several = record {
+  report = report_asked flags;
+  inverts = asks Invert flags;
+  labels = record {
+    names = not (asks NoName flags) && (several || asks WithName flags);
+    numbers = asks Numbers flags;
+    places = asks Places flags;
+    end = end_asked flags;
+  };
+}
+
+abbrev pub task_of : Asked → Task
+task_of asked = task_asked asked.flags (nat_lt 1 (length asked.files))
+
+-- a text with a line feed behind it, where it has a last line that does not end
+abbrev pub closed : List ℕ → List ℕ
+closed text = if nat_lt 0 (length text) && not (slice_index text (length text - 1) == 10) then text ++ 10 ∷ [] else text
+
+abbrev pub closed_file : GivenFile → List ℕ
+closed_file f = closed (unwrap_or f.bytes [])
+
+-- the text whose lines are the patterns: each of them that was given, and these files
+abbrev pub pattern_text : List (List ℕ) → List GivenFile → List ℕ
+pattern_text patterns files = flat_map (λ p. p ++ 10 ∷ []) patterns ++ flat_map closed_file files
+
+-- the patterns that are searched for
+abbrev pub dictionary_asked : Asked → List GivenFile → Dictionary ℕ
+dictionary_asked asked files = dictionary (kind_asked asked.flags) (texts_as_read (asks IgnoreCase asked.flags) (with_numbers 0 (pattern_lines (pattern_text asked.patterns files))))
+
+-- the names of the files that are searched: standard input, where there is no other
+abbrev pub names_asked : List (List ℕ) → List (List ℕ)
+names_asked [] = codes "-" ∷ []
+names_asked (name ∷ names) = name ∷ names
+
+-- the name of a file as it is printed
+abbrev pub shown : List ℕ → List ℕ
+shown name = if same_text name (codes "-") then codes "(standard input)" else name
+
+module _ (K : Dictionary ℕ) (folds : Bool) (task : Task) where
+  -- what is written of a file
+  abbrev pub text_of_file : GivenFile → List ℕ
+  text_of_file f = unwrap_or (option_map (file_text K folds task (shown f.name)) f.bytes) []
+
+  abbrev pub files_text : List GivenFile → List ℕ
+  files_text files = flat_map text_of_file files
+
+  -- a line of the file is selected
+  abbrev pub selects_of : GivenFile → Bool
+  selects_of f = unwrap_or (option_map (λ text. has_selected K folds task.inverts (lines_of task.labels.end text)) f.bytes) false
+
+  -- what came of the search of these files
+  abbrev pub outcome_of : List GivenFile → Outcome
+  outcome_of files = record { selected = list_any selects_of files; trouble = has_unread files }
+
+-- 0 where a line is selected, 1 where none is, and 2 where a file cannot be read, unless a line is selected and only this was asked
+abbrev pub status_of_outcome : Bool → Outcome → ℕ
+status_of_outcome quiet o = if o.trouble && not (quiet && o.selected) then 2 else (if o.selected then 0 else 1)
+
+-- what came of two searches, one after the other
+abbrev pub both : Outcome → Outcome → Outcome
+both a b = record { selected = a.selected || b.selected; trouble = a.trouble || b.trouble }
+
+-- the files of these names were read, and their texts added
+pub record HasRead (given : Option (List ℕ → Option (List ℕ))) (names : List (List ℕ)) (old new : List ℕ) : Type 0 where
+  pub files : List GivenFile
+  pub are_files : AreFilesOf given names files
+  pub are_read : has_unread files ≡ false
+  pub added : new ≡ old ++ flat_map closed_file files
+
+-- the lines of the text are the patterns that are asked for
+pub record GivesPatterns (asked : Asked) (given : Option (List ℕ → Option (List ℕ))) (text : List ℕ) : Type 0 where
+  pub files : List GivenFile
+  pub are_files : AreFilesOf given asked.pattern_files files
+  pub are_read : has_unread files ≡ false
+  pub is : text ≡ pattern_text asked.patterns files
+
+-- the automaton holds the patterns that are asked for
+pub record IsForPatterns (asked : Asked) (given : Option (List ℕ → Option (List ℕ))) (a : Automaton ℕ) : Type 0 where
+  pub files : List GivenFile
+  pub are_files : AreFilesOf given asked.pattern_files files
+  pub are_read : has_unread files ≡ false
+  pub holds : dictionary_of a ≡ dictionary_asked asked files
+  pub folds : a.folds ≡ asks IgnoreCase asked.flags
+
+module _ (K : Dictionary ℕ) (folds : Bool) (task : Task) (given : Option (List ℕ → Option (List ℕ))) (names : List (List ℕ)) where
+  -- the files of these names were searched, or as far as the sink took what is written of them
+  pub record AreSearched {E : Type 0} (old new : Option (List ℕ)) (failures_old failures_new : ℕ) (result : Result Outcome E) : Type 0 where
+    pub files : List GivenFile
+    pub are_files : AreFilesOf given names files
+    pub written : IsWritten old new failures_old failures_new result (files_text K folds task files)
+    pub outcome : IfOk result (λ o. o ≡ outcome_of K folds task files)
+
+module _ (K : Dictionary ℕ) (folds : Bool) (asked : Asked) (given : Option (List ℕ → Option (List ℕ))) where
+  -- the files that are asked for were searched for these patterns, or as far as the sink took what is written of them
+  pub record IsSearched {E : Type 0} (old new : Option (List ℕ)) (failures_old failures_new : ℕ) (result : Result ℕ E) : Type 0 where
+    pub files : List GivenFile
+    pub are_files : AreFilesOf given (names_asked asked.files) files
+    pub written : IsWritten old new failures_old failures_new result (files_text K folds (task_of asked) files)
+    pub status : IfOk result (λ s. s ≡ status_of_outcome (asks Quiet asked.flags) (outcome_of K folds (task_of asked) files))
+
+-- a search is asked for, by which this text is to be written, with this status at the end
+pub record IsSearch (asked : Asked) (given : Option (List ℕ → Option (List ℕ))) (text : List ℕ) (status : ℕ) : Type 0 where
+  pub pattern_files : List GivenFile
+  pub are_pattern_files : AreFilesOf given asked.pattern_files pattern_files
+  pub are_read : has_unread pattern_files ≡ false
+  pub files : List GivenFile
+  pub are_files : AreFilesOf given (names_asked asked.files) files
+  pub text_is : text ≡ files_text (dictionary_asked asked pattern_files) (asks IgnoreCase asked.flags) (task_of asked) files
+  pub status_is : status ≡ status_of_outcome (asks Quiet asked.flags) (outcome_of (dictionary_asked asked pattern_files) (asks IgnoreCase asked.flags) (task_of asked) files)
+
+-- the usage or the version is asked for
+abbrev pub tells_of_itself : Asked → Bool
+tells_of_itself asked = asks Help asked.flags || asks Version asked.flags
+
+-- this text is asked for, and this status at the end
+abbrev pub IsAnswer : Asked → Option (List ℕ → Option (List ℕ)) → List ℕ → ℕ → Type 0
+IsAnswer asked given text status = ((tells_of_itself asked ≡ true) × (status ≡ 0)) ⊎ ((tells_of_itself asked ≡ false) × IsSearch asked given text status)
+
+module _ (asked : Asked) (given : Option (List ℕ → Option (List ℕ))) (old new : Option (List ℕ)) (failures_old failures_new : ℕ) where
+  -- all that is asked for was written
+  pub record IsDone (status : ℕ) : Type 0 where
+    pub text : List ℕ
+    pub is_answer : IsAnswer asked given text status
+    pub written : Appends old new text
+    pub unfailed : failures_new ≡ failures_old
+
+  -- writing failed, after a beginning of what is asked for
+  pub record IsCutOff : Type 0 where
+    pub text : List ℕ
+    pub status : ℕ
+    pub is_answer : IsAnswer asked given text status
+    pub written : AppendsBeginning old new text
+    pub failed : failures_new ≡ failures_old + 1
+
+  -- how an attempt ends: with a status, or it fails, and then mostly before anything was written
+  abbrev pub Ends : {E : Type 0} → Result ℕ E → Type 0
+  Ends (Ok status) = IsDone status
+  Ends (Err e) = (Keeps old new × (failures_new ≡ failures_old)) ⊎ IsCutOff
+
+-- the status of an attempt
+abbrev pub status_of : {E : Type 0} → Result ℕ E → ℕ
+status_of (Ok status) = status
+status_of (Err e) = 2
+
+module _ (words : List (List ℕ)) (given : Option (List ℕ → Option (List ℕ))) (old new : Option (List ℕ)) (failures_old failures_new : ℕ) where
+  -- What a status says: the words are known, and all that they ask for was written, with the status that it has; or the status is 2, and nothing was written, or a beginning of what known words ask for.
+  abbrev pub EndsBy : ℕ → Type 0
+  EndsBy status =
+      (AreKnown (requests Any words) × IsDone (options_of (requests Any words)) given old new failures_old failures_new status)
+      ⊎ ((status ≡ 2) × ((Keeps old new × (failures_new ≡ failures_old))
+      ⊎ (AreKnown (requests Any words) × IsCutOff (options_of (requests Any words)) given old new failures_old failures_new)))

@@ -1,0 +1,106 @@
+//! The search of files by their names.
+
+ghost use Rattle.std.specs.Prelude.{◌≡◌, ◌∷◌, ◌&&◌, ◌||◌, [], map, not};
+ghost use Rattle.daachorse_bytewise.specs.Automata.{dictionary_of};
+ghost use Rattle.daacgrep_command.specs.Asked.{AreSearched, both, shown, status_of_outcome};
+
+use crate::search::{Task, search_file};
+use crate::searcher::Searcher;
+use daacfind_command::inputs::Inputs;
+use daacfind_command::sink::{Sink, SinkError, SinkText};
+use std::alloc::Allocator;
+use std::fmt::Write;
+
+/// What came of a search of files.
+#[derive(Clone, Copy, Debug, PartialEq, Eq)]
+pub struct Outcome {
+    /// Whether a line is selected.
+    pub selected: bool,
+    /// Whether a file could not be read.
+    pub trouble: bool,
+}
+
+impl Outcome {
+    /// Returns the status: 0 if a line is selected, 1 if none is, and 2 after trouble, unless the
+    /// search is quiet and a line is selected.
+    pub fn status(self, is_quiet: bool) -> u8
+        ensures { result ≡ status_of_outcome is_quiet self }
+    {
+        if self.trouble && !(is_quiet && self.selected) {
+            2
+        } else if self.selected {
+            0
+        } else {
+            1
+        }
+    }
+
+    // What came of this search and then of another.
+    fn and(self, other: Outcome) -> Outcome
+        ensures { result ≡ both self other }
+    {
+        Outcome {
+            selected: self.selected | other.selected,
+            trouble: self.trouble | other.trouble,
+        }
+    }
+}
+
+/// Writes what the task asks of each of the files, and returns what came of it. A file that cannot
+/// be read is told of on `err`, and the search goes on with the next.
+pub fn search_files<I: Inputs, S: Sink, E: Sink, A: Allocator>(
+    searcher: &Searcher<A>,
+    task: Task,
+    names: &[&str],
+    files: &mut I,
+    out: &mut S,
+    err: &mut E,
+) -> Result<Outcome, SinkError>
+    ensures { AreSearched (dictionary_of searcher.now) searcher.now.folds task (I.given files.old) (map (λ n. n.now) names.now) (S.taken out.old) (S.taken out.new) (S.failures out.old) (S.failures out.new) result }
+{
+    let mut outcome = Outcome {
+        selected: false,
+        trouble: false,
+    };
+    for name in names {
+        let found = search_named(searcher, task, name, files, out, err)?;
+        outcome = outcome.and(found);
+    }
+    Ok(outcome)
+}
+
+fn search_named<I: Inputs, S: Sink, E: Sink, A: Allocator>(
+    searcher: &Searcher<A>,
+    task: Task,
+    name: &str,
+    files: &mut I,
+    out: &mut S,
+    err: &mut E,
+) -> Result<Outcome, SinkError>
+    ensures given { I.given files.new ≡ I.given files.old }
+    ensures searched { AreSearched (dictionary_of searcher.now) searcher.now.folds task (I.given files.old) (name.now ∷ []) (S.taken out.old) (S.taken out.new) (S.failures out.old) (S.failures out.new) result }
+{
+    match files.read(name) {
+        Some(text) => Ok(Outcome {
+            selected: search_file(searcher, task, shown(name), &text, out)?,
+            trouble: false,
+        }),
+        None => {
+            let _ = writeln!(SinkText { sink: err }, "daacgrep: cannot read {name}");
+            Ok(Outcome {
+                selected: false,
+                trouble: true,
+            })
+        }
+    }
+}
+
+// The name of a file as it is printed.
+fn shown(name: &str) -> &str
+    ensures { result.now ≡ shown name.now }
+{
+    match name {
+        "-" => "(standard input)",
+        _ => name,
+    }
+}

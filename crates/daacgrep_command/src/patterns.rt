@@ -1,0 +1,136 @@
+//! The patterns that are asked for.
+
+ghost use Rattle.std.specs.Prelude.{◌≡◌, ◌≢◌, ◌++◌, ◌∷◌, [], IfOk, OnOk, flat_map, map};
+ghost use Rattle.daachorse_model.specs.declared.MatchKind.TheVariants.{Standard};
+ghost use Rattle.daachorse_model.specs.Program.{pattern_lines};
+ghost use Rattle.daacgrep_command.specs.Asked.{GivesPatterns, HasRead, IsForPatterns, closed, kind_asked};
+
+use crate::error::CommandError;
+use crate::flag::Flag;
+use crate::lines::Lines;
+use crate::options::Options;
+use crate::searcher::Searcher;
+use daacfind_command::inputs::Inputs;
+use daacfind_command::sink::{Sink, SinkText};
+use daachorse::MatchKind;
+use std::alloc::{AllocError, Global};
+use std::fmt::Write;
+
+/// Builds the automaton of the patterns that are asked for. A carriage return at the end of one is
+/// told of on `err`.
+///
+/// # Errors
+///
+/// [`CommandError::NoPattern`] if there is none, [`CommandError::Read`] if a file of patterns cannot
+/// be read, [`CommandError::Build`] if the build refuses them, and [`CommandError::OutOfMemory`] if
+/// an allocation fails.
+pub fn searcher<'a, I: Inputs, E: Sink>(
+    alloc: Global,
+    options: &Options<'a, Global>,
+    files: &mut I,
+    err: &mut E,
+) -> Result<Searcher<Global>, CommandError<'a>>
+    ensures given { I.given files.new ≡ I.given files.old }
+    ensures ok { IfOk result (λ s. IsForPatterns options.now (I.given files.old) s) }
+{
+    if options.patterns().is_empty() && options.pattern_files().is_empty() {
+        return Err(CommandError::NoPattern);
+    }
+    let text = pattern_text(alloc, options, files)?;
+    tell_of_returns(&text, err);
+    let patterns = lines(alloc, &text)?;
+    let folds = options.has(Flag::IgnoreCase);
+    Ok(Searcher::new(alloc, kind(options), folds, &patterns)?)
+}
+
+fn kind(options: &Options<'_, Global>) -> MatchKind
+    ensures kind { result ≡ kind_asked options.now.flags }
+    ensures leftmost { result ≢ Standard }
+{
+    if options.has(Flag::First) {
+        MatchKind::LeftmostFirst
+    } else {
+        MatchKind::LeftmostLongest
+    }
+}
+
+// The text whose lines are the patterns.
+fn pattern_text<'a, I: Inputs>(
+    alloc: Global,
+    options: &Options<'a, Global>,
+    files: &mut I,
+) -> Result<Vec<u8>, CommandError<'a>>
+    ensures given { I.given files.new ≡ I.given files.old }
+    ensures ok { IfOk result (λ text. GivesPatterns options.now (I.given files.old) text.items) }
+{
+    let mut text = Vec::new(alloc);
+    add_patterns(options.patterns(), &mut text)?;
+    add_files(options.pattern_files(), files, &mut text)?;
+    Ok(text)
+}
+
+// Adds each pattern, with a line feed behind it.
+fn add_patterns(patterns: &[&str], text: &mut Vec<u8>) -> Result<(), AllocError>
+    ensures { OnOk result (text.new.items ≡ text.old.items ++ flat_map (λ p. p ++ 10 ∷ []) (map (λ p. p.now) patterns.now)) }
+{
+    for pattern in patterns {
+        add_line(pattern, text)?;
+    }
+    Ok(())
+}
+
+// Adds a line.
+fn add_line(line: &str, text: &mut Vec<u8>) -> Result<(), AllocError>
+    ensures { OnOk result (text.new.items ≡ text.old.items ++ (line.now ++ 10 ∷ [])) }
+{
+    text.extend_from_slice(line.as_bytes())?;
+    text.extend_from_slice(b"\n")
+}
+
+// Adds the files of these names.
+fn add_files<'a, I: Inputs>(
+    names: &[&'a str],
+    files: &mut I,
+    text: &mut Vec<u8>,
+) -> Result<(), CommandError<'a>>
+    ensures given { I.given files.new ≡ I.given files.old }
+    ensures ok { OnOk result (HasRead (I.given files.old) (map (λ n. n.now) names.now) text.old.items text.new.items) }
+{
+    for name in names {
+        let Some(bytes) = files.read(name) else {
+            return Err(CommandError::Read(name));
+        };
+        add_closed(&bytes, text)?;
+    }
+    Ok(())
+}
+
+// Adds a text, with a line feed behind its last line.
+fn add_closed(bytes: &[u8], text: &mut Vec<u8>) -> Result<(), AllocError>
+    ensures { OnOk result (text.new.items ≡ text.old.items ++ closed bytes.now) }
+{
+    text.extend_from_slice(bytes)?;
+    if !bytes.is_empty() && bytes[bytes.len() - 1] != b'\n' {
+        text.extend_from_slice(b"\n")?;
+    }
+    Ok(())
+}
+
+fn tell_of_returns<E: Sink>(text: &[u8], err: &mut E) {
+    if text.windows(2).any(|pair| pair == b"\r\n".as_slice()) {
+        let _ = writeln!(
+            SinkText { sink: err },
+            "daacgrep: a pattern ends with a carriage return, which is part of it"
+        );
+    }
+}
+
+fn lines(alloc: Global, text: &[u8]) -> Result<Vec<&[u8]>, AllocError>
+    ensures { IfOk result (λ v. map (λ line. line.now) v.items ≡ pattern_lines text.now) }
+{
+    let mut lines = Vec::new(alloc);
+    for line in Lines::new(text, b'\n') {
+        lines.push(line.bytes)?;
+    }
+    Ok(lines)
+}

@@ -1,0 +1,6 @@
+pub mod LeftmostCertain
+pub mod ScanLaws
+pub mod SearchingLaws
+pub mod GivingLaws
+pub mod StreamLaws
+pub mod MarkLaws

@@ -1,0 +1,5 @@
+pub mod Children
+pub mod Marks
+pub mod Scans
+pub mod Searching
+pub mod Streamed

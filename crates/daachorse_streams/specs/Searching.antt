@@ -1,0 +1,70 @@
+-- A leftmost search that is given its haystack unit by unit: where it stands between two calls.
+use Rattle.std.specs.Prelude.{◌≡◌, ℕ, ◌+◌, ◌^◌, ◌<◌, Bool, true, false, cond, nat_lt, List, [], ◌∷◌, ◌++◌, length, map, take, None}
+use Rattle.std.specs.VecDeque.{deque_capacity}
+use Rattle.daachorse_model.specs.declared.Match.{Match}
+use Rattle.daachorse_model.specs.Units.{size}
+use Rattle.daachorse_model.specs.Dictionary.{Dictionary}
+use Rattle.daachorse_model.specs.Leftmost.{leftmost, leftmost_from}
+use Rattle.daachorse_search.specs.BestScans.{HasNoLongerKey}
+use Rattle.daachorse_search.specs.LeftmostSearches.{IsWithin}
+use Rattle.daachorse_search.specs.Views.{AutomatonView, IsLeftmostView}
+use Rattle.daachorse_streams.specs.declared.scan.Scan.{Scan}
+use Rattle.daachorse_streams.specs.declared.search.Search.{Search}
+use Rattle.daachorse_streams.specs.Scans.{IsScan, depth}
+
+-- a match may be certain: the best of the scan is decided, or units are left to read
+abbrev pub waits : Bool → ℕ → ℕ → Bool
+waits decided walked count = cond decided true (nat_lt walked count)
+
+-- how many units the search passes over
+abbrev pub passed_over : Bool → List ℕ → ℕ
+passed_over false ahead = 0
+passed_over true [] = 0
+passed_over true (u ∷ ahead) = 1
+
+module _ {V : Type 0} (width : ℕ → ℕ) (view : AutomatonView V) where
+  -- no scan has begun yet: one unit is passed over first
+  pub record IsIdle (from : ℕ) (w : List ℕ) (scan : Scan) (behind : List ℕ) : Type 0 where
+    pub none_read : w ≡ []
+    pub none_behind : behind ≡ []
+    pub no_best : scan.best ≡ None
+    pub open_yet : scan.decided ≡ false
+    pub place : scan.place ≡ from
+    pub root : view.text scan.state ≡ []
+
+  abbrev pub Stands : Bool → ℕ → List ℕ → Scan → List ℕ → Type 0
+  Stands true from w scan behind = IsIdle from w scan behind
+  Stands false from w scan behind = IsScan width view from w scan behind
+
+  module _ {U ALLOC : Type 0} (unit : U → ℕ) where
+    -- Of what was read, the scan began behind `passed`, and read w; `ahead` is left to read. The matches in `gave` were given, and the rest are those that a search from there gives, however the haystack goes on.
+    pub record IsSearching (s : Search U ALLOC) : Type 0 where
+      pub kind : IsLeftmostView view
+      pub passed : List ℕ
+      pub w : List ℕ
+      pub behind : List ℕ
+      pub ahead : List ℕ
+      pub parts : s.seen.since ≡ passed ++ (w ++ ahead)
+      pub ring : map unit s.ring.items ≡ behind ++ ahead
+      pub walked : s.walked ≡ length behind
+      pub stands : Stands s.skips (size width passed) w s.scan behind
+      pub gave : List (Match V)
+      pub counted : length gave ≡ s.seen.given
+      pub left : (d : List ℕ) → (s.ended ≡ true → d ≡ []) → leftmost width view.content (s.seen.since ++ d) ≡ gave ++ leftmost_from width view.content (size width passed) (cond s.skips 1 0) s.after ((w ++ ahead) ++ d)
+      pub most : IsWithin width view.content (length passed + length w + passed_over s.skips ahead) s.after (s.turns + depth view s.scan) s.seen.given
+      pub room : 0 < deque_capacity s.ring
+      pub longest : HasNoLongerKey view.content (deque_capacity s.ring)
+      pub fits : size width s.seen.since < 2 ^ 64
+
+module _ {U ALLOC : Type 0} where
+  -- what reading on leaves as it is
+  abbrev pub WalksOn : Search U ALLOC → Search U ALLOC → Type 0
+  WalksOn old new = (new.seen ≡ old.seen) × (new.ended ≡ old.ended) × (new.after ≡ old.after)
+
+  -- the matches given
+  abbrev pub given_of : {V : Type 0} → (ℕ → ℕ) → Dictionary V → Search U ALLOC → List (Match V)
+  given_of width K s = take s.seen.given (leftmost width K s.seen.since)
+
+  -- what was read, and whether it has ended, stays
+  abbrev pub ReadsTheSame : Search U ALLOC → Search U ALLOC → Type 0
+  ReadsTheSame old new = (new.seen.since ≡ old.seen.since) × (new.ended ≡ old.ended) × (new.turns ≡ old.turns)

@@ -1,0 +1,31 @@
+-- A leftmost search that is given its haystack unit by unit, as its callers see it.
+use Rattle.std.specs.Prelude.{◌≡◌, ℕ, Bool, true, false, List}
+use Rattle.daachorse_model.specs.declared.Match.{Match}
+use Rattle.daachorse_model.specs.Certain.{AreCertain}
+use Rattle.daachorse_model.specs.Dictionary.{Dictionary}
+use Rattle.daachorse_model.specs.Leftmost.{leftmost}
+
+pub record LeftmostStreamed (V A : Type 0) : Type 0 where
+  pub automaton : A
+  -- whether units are read folded
+  pub folds : Bool
+  -- the units consumed, as they were read
+  pub read : List ℕ
+  -- the matches given
+  pub given : List (Match V)
+  -- whether it may have a certain match to give
+  pub waiting : Bool
+  -- whether the haystack has ended
+  pub ended : Bool
+  pub turns : ℕ
+
+-- what a match that is given leaves as it is
+abbrev pub IsSameStream : {V A : Type 0} → LeftmostStreamed V A → LeftmostStreamed V A → Type 0
+IsSameStream old new = (new.automaton ≡ old.automaton) × (new.folds ≡ old.folds) × (new.read ≡ old.read) × (new.ended ≡ old.ended)
+
+-- No match was given, and none is to give before more units come: those given are all that are certain, and at the end all of the haystack.
+pub record IsSettled {V A : Type 0} (width : ℕ → ℕ) (K : Dictionary V) (old new : LeftmostStreamed V A) : Type 0 where
+  pub same : new.given ≡ old.given
+  pub quiet : new.waiting ≡ false
+  pub certain : new.ended ≡ false → AreCertain width K new.read new.given
+  pub all : new.ended ≡ true → new.given ≡ leftmost width K new.read

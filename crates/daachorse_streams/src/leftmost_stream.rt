@@ -1,0 +1,181 @@
+//! The leftmost matches in what is given unit by unit.
+
+ghost use Rattle.std.specs.Prelude.{◌≡◌, ◌+◌, ◌*◌, ◌^◌, ◌<◌, ◌≤◌, ◌++◌, ℕ, true, false, List, [], ◌∷◌, length, IfOk, MatchOption};
+ghost use Rattle.daachorse_model.specs.Certain.{BeginEach};
+ghost use Rattle.daachorse_model.specs.Folding.{as_read};
+ghost use Rattle.daachorse_model.specs.Leftmost.{leftmost};
+ghost use Rattle.daachorse_model.specs.Units.{size};
+ghost use Rattle.daachorse_search.specs.BestScans.{HasNoLongerKey};
+ghost use Rattle.daachorse_search.specs.Views.{IsLeftmostView};
+ghost use Rattle.daachorse_streams.specs.Children.{HasMarks};
+ghost use Rattle.daachorse_streams.specs.Streamed.{IsSameStream, IsSettled};
+
+use crate::scan::begin;
+use crate::search::{Search, give, walk};
+use daachorse_core::Match;
+use daachorse_core::ascii_fold::AsciiFold;
+use daachorse_core::edge_label::EdgeLabel;
+use daachorse_core::turns::{Seen, Turns};
+use daachorse_search::automaton::Automaton;
+use std::alloc::{AllocError, Allocator};
+use std::collections::VecDeque;
+use std::marker::{Model, PhantomData};
+
+/// A leftmost search that is given its haystack unit by unit, and gives each match as soon as it
+/// is certain: as soon as each haystack that goes on from there has it.
+///
+/// It keeps the units that it may have to read again, no more than the longest pattern has.
+#[derive(Drop)]
+pub struct LeftmostStream<'a, V: Copy, A: Automaton<V>, ALLOC: Allocator> {
+    automaton: A,
+    // Of each state, whether its text goes on to a longer one.
+    marks: &'a [bool],
+    // Whether units are read folded.
+    folds: bool,
+    search: Search<A::Unit, ALLOC>,
+    of: PhantomData<V>,
+}
+
+impl<'a, V: Copy, A: Automaton<V>, ALLOC: Allocator> Model for LeftmostStream<'a, V, A, ALLOC> {
+    ghost use Rattle.std.specs.Prelude.{take, length};
+    ghost use Rattle.daachorse_model.specs.Leftmost.{leftmost};
+    ghost use Rattle.daachorse_streams.specs.Children.{HasMarks};
+    ghost use Rattle.daachorse_streams.specs.Searching.{IsSearching, waits};
+    ghost use Rattle.daachorse_streams.specs.Streamed.{LeftmostStreamed};
+
+    ghost Value = { LeftmostStreamed V A };
+
+    ghost view = { λ s. record {
+      automaton = s.automaton;
+      folds = s.folds;
+      read = s.search.seen.since;
+      given = take s.search.seen.given (leftmost A.Unit.width (A.sees s.automaton).content s.search.seen.since);
+      waiting = waits s.search.scan.decided s.search.walked (length s.search.ring.items);
+      ended = s.search.ended;
+      turns = s.search.turns;
+    } };
+
+    ghost invariant = { λ s. HasMarks (A.sees s.automaton) s.marks.now
+        × IsSearching A.Unit.width (A.sees s.automaton) A.Unit.unit s.search };
+}
+
+impl<'a, V: Copy, A: Automaton<V>, ALLOC: Allocator> LeftmostStream<'a, V, A, ALLOC> {
+    /// A search that was given nothing yet. It takes all its memory here: for as many units as the
+    /// longest pattern has.
+    ///
+    /// # Conditions
+    /// The automaton is for leftmost searches, `marks` says of each state whether its text goes on
+    /// to a longer one, and no pattern has more than `longest` units.
+    pub fn new(
+        alloc: ALLOC,
+        automaton: A,
+        marks: &'a [bool],
+        longest: usize,
+        folds: bool,
+    ) -> Result<Self, AllocError>
+        requires kind { IsLeftmostView (A.sees automaton) }
+        requires marks { HasMarks (A.sees automaton) marks.now }
+        requires longest { HasNoLongerKey (A.sees automaton).content longest }
+        ensures automaton { IfOk result (λ s. s.automaton ≡ automaton) }
+        ensures folds { IfOk result (λ s. s.folds ≡ folds) }
+        ensures read { IfOk result (λ s. s.read ≡ []) }
+        ensures given { IfOk result (λ s. s.given ≡ []) }
+        ensures ended { IfOk result (λ s. s.ended ≡ false) }
+        ensures turns { IfOk result (λ s. s.turns ≡ 0) }
+    {
+        let room = if longest == 0 { 1 } else { longest };
+        let ring = VecDeque::with_capacity(alloc, room)?;
+        let scan = begin(&automaton, marks, 0);
+        Ok(LeftmostStream {
+            automaton,
+            marks,
+            folds,
+            search: Search {
+                ring,
+                walked: 0,
+                scan,
+                skips: false,
+                after: false,
+                ended: false,
+                turns: Turns::new(),
+                seen: Seen::new(),
+            },
+            of: PhantomData,
+        })
+    }
+
+    /// Takes the next unit. It takes no memory, and looks at no state.
+    ///
+    /// # Conditions
+    /// All certain matches were asked for, the haystack has not ended, and the place after the unit
+    /// fits.
+    #[inline(always)]
+    pub fn consume(&mut self, unit: A::Unit)
+    where
+        A::Unit: AsciiFold,
+        requires taken { self.old.waiting ≡ false }
+        requires open { self.old.ended ≡ false }
+        requires fits { size A.Unit.width self.old.read + A.Unit.width (A.Unit.unit unit) < 2 ^ 64 }
+        ensures automaton { self.new.automaton ≡ self.old.automaton }
+        ensures folds { self.new.folds ≡ self.old.folds }
+        ensures read { self.new.read ≡ self.old.read ++ as_read self.old.folds (A.Unit.unit unit ∷ []) }
+        ensures given { self.new.given ≡ self.old.given }
+        ensures ended { self.new.ended ≡ false }
+        ensures turns { self.new.turns ≡ self.old.turns }
+    {
+        let read = as_given(unit, self.folds);
+        self.search.ring.push_back_reserved(read);
+        self.search.seen.push(read.code());
+    }
+
+    /// Ends the haystack: all matches that are left are certain now.
+    #[inline(always)]
+    pub fn end(&mut self)
+        ensures automaton { self.new.automaton ≡ self.old.automaton }
+        ensures folds { self.new.folds ≡ self.old.folds }
+        ensures read { self.new.read ≡ self.old.read }
+        ensures given { self.new.given ≡ self.old.given }
+        ensures ended { self.new.ended ≡ true }
+        ensures turns { self.new.turns ≡ self.old.turns }
+    {
+        self.search.ended = true;
+    }
+
+    /// The next match, if it is certain: of what was consumed so far, or of the whole haystack
+    /// where it has ended.
+    #[inline(always)]
+    pub fn next_certain(&mut self) -> Option<Match<V>>
+        ensures same { IsSameStream self.old self.new }
+        ensures gives { MatchOption result (IsSettled A.Unit.width (A.sees self.new.automaton).content self.old self.new) (λ m. self.new.given ≡ self.old.given ++ m ∷ []) }
+        ensures begins { self.new.ended ≡ false → BeginEach A.Unit.width (A.sees self.new.automaton).content self.new.read self.new.given }
+        ensures first { (rest : List (Match V)) × (leftmost A.Unit.width (A.sees self.new.automaton).content self.new.read ≡ self.new.given ++ rest) }
+    {
+        'matches: loop {
+            walk(&self.automaton, self.marks, &mut self.search);
+            let Some(best) = self.search.certain() else {
+                return None;
+            };
+            if let Some(found) = give(&self.automaton, self.marks, &mut self.search, best) {
+                return Some(found);
+            }
+        }
+    }
+
+    /// Does nothing. Its contract bounds the turns.
+    #[inline(always)]
+    pub fn turns_are_bounded(&self)
+        ensures { (m : ℕ) → HasNoLongerKey (A.sees self.now.automaton).content m
+            → self.now.turns ≤ 2 * length self.now.read + 4 * (m * length self.now.given) }
+    {
+        let _ = &self.folds;
+    }
+}
+
+/// The unit as it is read: folded, if `folds` is set.
+#[inline(always)]
+fn as_given<U: AsciiFold>(unit: U, folds: bool) -> U
+    ensures unit { as_read folds (U.EdgeLabel.unit unit ∷ []) ≡ U.EdgeLabel.unit result ∷ [] }
+    ensures width { U.EdgeLabel.width (U.EdgeLabel.unit result) ≡ U.EdgeLabel.width (U.EdgeLabel.unit unit) }
+{
+    if folds { unit.folded() } else { unit }
+}

@@ -21,9 +21,9 @@ use std::fmt::Write;
 ///
 /// # Errors
 ///
-/// [`CommandError::NoPattern`] if there is none, [`CommandError::Read`] if a file of patterns cannot
-/// be read, [`CommandError::Build`] if the build refuses them, and [`CommandError::OutOfMemory`] if
-/// an allocation fails.
+/// [`CommandError::NoPattern`] if there is none, [`CommandError::Read`] if a file of patterns
+/// cannot be read, [`CommandError::Build`] if the build refuses them, and
+/// [`CommandError::OutOfMemory`] if an allocation fails.
 pub fn searcher<'a, I: Inputs, E: Sink>(
     alloc: Global,
     options: &Options<'a, Global>,

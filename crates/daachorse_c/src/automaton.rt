@@ -148,7 +148,8 @@ impl Searcher {
     }
 
     /// Writes the matches from the place on that do not overlap, as many as there is room for, and
-    /// returns their number. Moves the place behind the last one. Fails if it is behind the haystack.
+    /// returns their number. Moves the place behind the last one. Fails if it is behind the
+    /// haystack.
     pub(crate) fn find_on(
         &self,
         haystack: &[u8],

@@ -343,13 +343,13 @@ pub extern "C" fn daachorse_leftmost_find(
 }
 
 /// Goes on from the place with the search of [`daachorse_leftmost_find`], or for a standard
-/// automaton with that of [`daachorse_find`]. Moves the place behind the last match written, or over
-/// the haystack's end if no match is left. A place that is all 0 is the beginning.
+/// automaton with that of [`daachorse_find`]. Moves the place behind the last match written, or
+/// over the haystack's end if no match is left. A place that is all 0 is the beginning.
 ///
 /// # Errors
 ///
-/// The numbers of [`Refusal::EmptyHandle`], and of `WrongPlace` if the place is behind the haystack.
-/// Nothing changes then, and `written` is 0.
+/// The numbers of [`Refusal::EmptyHandle`], and of `WrongPlace` if the place is behind the
+/// haystack. Nothing changes then, and `written` is 0.
 #[unsafe(no_mangle)]
 pub extern "C" fn daachorse_find_on(
     alloc: Global,

@@ -1,10 +1,10 @@
 -- What a search that is given its haystack unit by unit gives: its best match, where that is certain, and nothing else.
-use Rattle.std.proofs.Common.{◌≡◌, ◌≢◌, ℕ, zero, suc, ◌+◌, ◌-◌, ◌*◌, ◌<◌, ◌≤◌, ◌⊎◌, inl, inr, Bool, true, false, cond, List, [], ◌∷◌, ◌++◌, length, map, take, Option, Some, None, refl, sym, ap, ◌∙◌, subst, append_assoc, append-nil, length-append, arith}
+use Rattle.std.proofs.Common.{◌≡◌, ℕ, zero, suc, ◌+◌, ◌-◌, ◌*◌, ◌<◌, ◌≤◌, ◌⊎◌, inl, inr, Bool, true, false, cond, List, [], ◌∷◌, ◌++◌, length, Option, Some, None, refl, sym, ap, ◌∙◌, subst, append_assoc, append-nil, length-append, arith}
 use Rattle.std.proofs.lemmas.List.{nil_from_length, length-map}
 use Rattle.daachorse_core.specs.Seen.{SeenUnits}
 use Rattle.daachorse_model.specs.declared.Match.{Match}
 use Rattle.daachorse_model.specs.Units.{size}
-use Rattle.daachorse_model.specs.Best.{IsBest, IsBestSoFar}
+use Rattle.daachorse_model.specs.Best.{IsBest}
 use Rattle.daachorse_model.specs.Leftmost.{leftmost, leftmost_from}
 use Rattle.daachorse_model.proofs.Suffixes.{size-append}
 use Rattle.daachorse_search.specs.BestScans.{HasNoLongerKey}
@@ -14,7 +14,7 @@ use Rattle.daachorse_streams.specs.declared.scan.Pending.{Pending}
 use Rattle.daachorse_streams.specs.declared.scan.Scan.{Scan}
 use Rattle.daachorse_streams.specs.declared.search.Search.{Search}
 use Rattle.daachorse_streams.specs.Scans.{IsPending, IsPendingSoFar, IsScan, depth}
-use Rattle.daachorse_streams.specs.Searching.{IsSearching, IsIdle, Stands, given_of, passed_over}
+use Rattle.daachorse_streams.specs.Searching.{IsSearching, Stands, given_of, passed_over}
 use Rattle.daachorse_streams.proofs.LeftmostCertain.{empty_front, gives_empty, gives_key, match_of}
 use Rattle.daachorse_streams.proofs.ScanLaws.{rest_is}
 use Rattle.daachorse_streams.proofs.SearchingLaws.{depth_at_first, given_is}

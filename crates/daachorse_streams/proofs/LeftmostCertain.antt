@@ -1,15 +1,15 @@
 -- When a leftmost match is certain: a scan that stands at a text with a child may still find a better one, and no other scan.
-use Rattle.std.proofs.Common.{◌≡◌, ◌≢◌, ℕ, zero, suc, ◌+◌, ◌-◌, ◌*◌, ◌<◌, ◌≤◌, ◌⊎◌, inl, inr, Bool, true, false, cond, List, [], ◌∷◌, ◌++◌, length, Option, Some, None, refl, sym, ap, ◌∙◌, subst, append_assoc, append-nil, length-append, arith}
+use Rattle.std.proofs.Common.{◌≡◌, ℕ, zero, suc, ◌+◌, ◌-◌, ◌*◌, ◌<◌, ◌≤◌, ◌⊎◌, inl, inr, Bool, true, false, cond, List, [], ◌∷◌, ◌++◌, length, Some, None, refl, sym, ap, ◌∙◌, subst, append_assoc, append-nil, length-append, arith}
 use Rattle.std.proofs.lemmas.List.{nil_from_length}
 use Rattle.std.proofs.lemmas.Nat.{mul-le}
 use Rattle.daachorse_model.specs.declared.Match.{Match}
 use Rattle.daachorse_model.specs.Units.{size}
 use Rattle.daachorse_model.specs.Dictionary.{Dictionary}
-use Rattle.daachorse_model.specs.Prefixes.{IsSuffix, IsKey, IsPrefix, IsLong, Occurs}
+use Rattle.daachorse_model.specs.Prefixes.{IsSuffix, IsKey, IsPrefix, Occurs}
 use Rattle.daachorse_model.specs.Leftmost.{longest_key, leftmost_from}
 use Rattle.daachorse_model.specs.Best.{IsBest, IsBestSoFar, IsSteady, NoneStarts}
 use Rattle.daachorse_model.proofs.Suffixes.{le_or_lt, size-append, IsSuffix-of_longer, IsSuffix-as_long}
-use Rattle.daachorse_model.proofs.Steps.{IsPrefix-less, IsPrefix-key}
+use Rattle.daachorse_model.proofs.Steps.{IsPrefix-less}
 use Rattle.daachorse_model.proofs.Lists.{nil_of}
 use Rattle.daachorse_model.proofs.Links.{none_before}
 use Rattle.daachorse_model.proofs.Occurrences.{split_after, occurs_length, occurs_more}

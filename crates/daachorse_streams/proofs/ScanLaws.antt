@@ -1,11 +1,10 @@
 -- A scan, one unit further: what its best match is, and whether it is decided.
-use Rattle.std.proofs.Common.{◌≡◌, ◌≢◌, ℕ, ◌+◌, ◌<◌, ◌≤◌, ◌⊎◌, inl, inr, Bool, IsTrue, true, false, cond, List, [], ◌∷◌, ◌++◌, length, Option, Some, None, refl, sym, ap, ◌∙◌, subst, append_assoc, append-nil, length-append, arith}
+use Rattle.std.proofs.Common.{◌≡◌, ◌≢◌, ℕ, ◌+◌, ◌<◌, ◌≤◌, inl, inr, Bool, true, false, cond, List, [], ◌∷◌, ◌++◌, length, Option, Some, None, refl, sym, ap, ◌∙◌, subst, append_assoc, length-append, arith}
 use Rattle.std.specs.Prelude.{slice_index_or, is_some, not}
 use Rattle.std.specs.declared.num.NonZeroU32.{NonZeroU32}
 use Rattle.std.proofs.lemmas.Bool.{not-true, not-false}
 use Rattle.std.proofs.lemmas.List.{append_cancel_left}
 use Rattle.std.proofs.lemmas.Option.{slice_get_within, get_or_from_slice_get}
-use Rattle.daachorse_core.specs.Outputs.{number}
 use Rattle.daachorse_model.specs.Units.{size}
 use Rattle.daachorse_model.specs.Outputs.{IsChain}
 use Rattle.daachorse_model.specs.Prefixes.{IsPrefix}
@@ -14,13 +13,13 @@ use Rattle.daachorse_model.proofs.Suffixes.{size-append, size-push}
 use Rattle.daachorse_model.proofs.Links.{none_before}
 use Rattle.daachorse_model.proofs.BestLaws.{IsSteady-nil, Told-IsSteady, IsBestSoFar-keeps}
 use Rattle.daachorse_search.specs.BestScans.{HasNoLongerKey}
-use Rattle.daachorse_search.specs.Views.{AutomatonView, HasFirst, HasNone, IsLeftmostView}
+use Rattle.daachorse_search.specs.Views.{AutomatonView, HasFirst, IsLeftmostView}
 use Rattle.daachorse_search.proofs.BestScanLaws.{IsFound-new, IsFound-none, steady_none, steady_of}
 use Rattle.daachorse_search.proofs.LeftmostLaws.{nil_from_size}
 use Rattle.daachorse_streams.specs.declared.scan.Pending.{Pending}
 use Rattle.daachorse_streams.specs.declared.scan.Scan.{Scan}
-use Rattle.daachorse_streams.specs.Children.{HasChild, HasMarks, Leaf}
-use Rattle.daachorse_streams.specs.Scans.{IsPending, IsPendingSoFar, IsScan, depth}
+use Rattle.daachorse_streams.specs.Children.{HasMarks, Leaf}
+use Rattle.daachorse_streams.specs.Scans.{IsPending, IsPendingSoFar, IsScan}
 use Rattle.daachorse_streams.proofs.LeftmostCertain.{IsBest-at_leaf}
 
 module _ {V : Type 0} (view : AutomatonView V) (marks : List Bool) (marked : HasMarks view marks) (state : ℕ) (reached : view.reached state) where

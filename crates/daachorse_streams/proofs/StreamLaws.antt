@@ -1,5 +1,5 @@
 -- A stream's search: where it begins, when it has room for a unit, what is certain, and its turns.
-use Rattle.std.proofs.Common.{◌≡◌, ◌≢◌, ℕ, zero, suc, ◌+◌, ◌*◌, ◌^◌, ◌<◌, ◌≤◌, ◌⊎◌, inl, inr, Bool, true, false, cond, List, [], ◌∷◌, ◌++◌, length, map, take, Option, Some, None, refl, sym, ap, ◌∙◌, subst, append_assoc, append-nil, length-append, arith}
+use Rattle.std.proofs.Common.{◌≡◌, ℕ, ◌+◌, ◌*◌, ◌^◌, ◌<◌, ◌≤◌, ◌⊎◌, inl, inr, Bool, true, false, cond, List, [], ◌∷◌, ◌++◌, length, map, Option, Some, None, refl, sym, ap, ◌∙◌, subst, append_assoc, append-nil, length-append, arith}
 use Rattle.std.specs.VecDeque.{deque_capacity}
 use Rattle.std.specs.declared.collections.VecDeque.{VecDeque}
 use Rattle.std.proofs.lemmas.Bool.{le-ltb, ltb-false}
@@ -7,10 +7,9 @@ use Rattle.std.proofs.lemmas.List.{length-map, map-append, nil_from_length}
 use Rattle.daachorse_core.specs.Seen.{SeenUnits, unread}
 use Rattle.daachorse_model.specs.declared.Match.{Match}
 use Rattle.daachorse_model.specs.Units.{size}
-use Rattle.daachorse_model.specs.Best.{IsBest, IsBestSoFar, IsSteady}
+use Rattle.daachorse_model.specs.Best.{IsSteady}
 use Rattle.daachorse_model.specs.Certain.{AreCertain, BeginEach}
 use Rattle.daachorse_model.specs.Leftmost.{leftmost, leftmost_from}
-use Rattle.daachorse_model.specs.Prefixes.{IsPrefix}
 use Rattle.daachorse_model.proofs.Links.{none_before}
 use Rattle.daachorse_model.proofs.Occurrences.{occurs_length}
 use Rattle.daachorse_model.proofs.Suffixes.{size-push}
@@ -20,7 +19,7 @@ use Rattle.daachorse_streams.specs.declared.scan.Pending.{Pending}
 use Rattle.daachorse_streams.specs.declared.scan.Scan.{Scan}
 use Rattle.daachorse_streams.specs.declared.search.Search.{Search}
 use Rattle.daachorse_streams.specs.Children.{HasChild}
-use Rattle.daachorse_streams.specs.Scans.{IsPending, IsPendingSoFar, IsScan, depth}
+use Rattle.daachorse_streams.specs.Scans.{IsPending, IsPendingSoFar, IsScan}
 use Rattle.daachorse_streams.specs.Searching.{IsSearching, Stands, given_of, passed_over, waits}
 use Rattle.daachorse_streams.proofs.GivingLaws.{now}
 use Rattle.daachorse_streams.proofs.LeftmostCertain.{begins_both, gives_none, goes_apart}

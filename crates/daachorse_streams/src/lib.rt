@@ -5,3 +5,4 @@ pub mod leftmost_stream;
 pub mod marks;
 mod scan;
 mod search;
+pub mod taking;

@@ -1,11 +1,10 @@
 -- A step to the root decides the best match, one to a state with an output finds a better one, and any other keeps it.
-use Rattle.std.proofs.Common.{◌≡◌, ◌≢◌, ℕ, ◌+◌, true, false, List, [], ◌∷◌, ◌++◌, Option, Some, refl, sym, ap, ◌∙◌, subst, arith}
+use Rattle.std.proofs.Common.{◌≡◌, ◌≢◌, ℕ, ◌+◌, true, false, List, [], ◌∷◌, ◌++◌, Option, refl, ap, ◌∙◌, subst, arith}
 use Rattle.std.specs.Prelude.{slice_index_or, not}
 use Rattle.std.proofs.lemmas.Bool.{not_from_true}
 use Rattle.std.specs.declared.num.NonZeroU32.{NonZeroU32}
 use Rattle.daachorse_core.specs.Outputs.{number}
 use Rattle.daachorse_model.specs.Outputs.{IsChain}
-use Rattle.daachorse_model.specs.Units.{size}
 use Rattle.daachorse_model.proofs.Suffixes.{size-push}
 use Rattle.daachorse_search.specs.Views.{HasFirst}
 use Rattle.daachorse_search.proofs.BestScanLaws.{steady_of}

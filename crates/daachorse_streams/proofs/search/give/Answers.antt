@@ -1,10 +1,10 @@
 -- The output of the best match tells its value and size, so the match is that which is left first.
-use Rattle.std.proofs.Common.{◌≡◌, ℕ, ◌+◌, ◌-◌, ◌<◌, ◌≤◌, ◌⊎◌, inl, inr, true, false, Bool, cond, List, [], ◌∷◌, ◌++◌, length, refl, sym, ap, ◌∙◌, subst, append-nil, arith}
+use Rattle.std.proofs.Common.{◌≡◌, ◌+◌, ◌-◌, ◌<◌, ◌≤◌, ◌⊎◌, inl, inr, true, cond, [], ◌∷◌, ◌++◌, length, refl, sym, ap, ◌∙◌, append-nil, arith}
 use Rattle.daachorse_core.specs.Outputs.{length_of}
 use Rattle.daachorse_core.specs.Seen.{SeenUnits}
 use Rattle.daachorse_model.specs.declared.Match.{Match}
-use Rattle.daachorse_streams.specs.Searching.{IsSearching, given_of}
-use Rattle.daachorse_streams.proofs.GivingLaws.{gave_key, gave_empty, goes_on, output_within}
+use Rattle.daachorse_streams.specs.Searching.{given_of}
+use Rattle.daachorse_streams.proofs.GivingLaws.{gave_key, gave_empty, output_within}
 use Rattle.daachorse_streams.proofs.search.give.Given as given
 use Rattle.daachorse_streams.proofs.search.give.Goals as goal
 use Rattle.daachorse_streams.proofs.search.give.Goals.{Start}

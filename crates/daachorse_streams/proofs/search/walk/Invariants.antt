@@ -1,5 +1,5 @@
 -- The search stands right before each unit, and each round reads one.
-use Rattle.std.proofs.Common.{ℕ, ◌-◌, length}
+use Rattle.std.proofs.Common.{◌-◌}
 use Rattle.std.specs.VecDeque.{deque_len}
 use Rattle.daachorse_streams.specs.Searching.{IsSearching, WalksOn}
 use Rattle.daachorse_streams.proofs.search.walk.Given as goal

@@ -1,10 +1,9 @@
 -- The next unit of the queue is the first that is left to read: a unit that is passed over begins a scan, and any other is read by the scan.
-use Rattle.std.proofs.Common.{◌≡◌, ℕ, ◌+◌, ◌<◌, Bool, true, false, List, [], ◌∷◌, ◌++◌, length, map, drop, cond, refl, sym, ap, ◌∙◌, subst, append_assoc, length-append, get_or, arith}
+use Rattle.std.proofs.Common.{◌≡◌, ℕ, ◌+◌, ◌<◌, Bool, [], ◌∷◌, ◌++◌, length, map, drop, cond, refl, sym, ap, ◌∙◌, subst, append_assoc, length-append, arith}
 use Rattle.daachorse_model.specs.Units.{size}
 use Rattle.daachorse_streams.specs.Scans.{IsScan}
 use Rattle.daachorse_streams.specs.Searching.{Stands}
-use Rattle.daachorse_streams.proofs.SearchingLaws.{IsNext, next, next_fits, one_read, over_unit, place_is}
-use Rattle.daachorse_streams.proofs.search.walk_unit.Given as given
+use Rattle.daachorse_streams.proofs.SearchingLaws.{next, next_fits, one_read, over_unit, place_is}
 use Rattle.daachorse_streams.proofs.search.walk_unit.Goals as goal
 
 pub overflow_add-place : goal.overflow_add-place

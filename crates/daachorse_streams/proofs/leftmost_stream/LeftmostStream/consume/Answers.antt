@@ -1,5 +1,5 @@
 -- Where nothing waits there is room for one more unit, and one that is read later changes no match that was given.
-use Rattle.std.proofs.Common.{◌≡◌, ◌<◌, ◌+◌, ◌^◌, ◌++◌, ◌∷◌, [], ℕ, List, false, length, subst, sym, ap, ◌∙◌, arith}
+use Rattle.std.proofs.Common.{◌≡◌, ◌<◌, ◌+◌, ◌^◌, ◌++◌, ◌∷◌, [], false, subst, sym, ap, ◌∙◌, arith}
 use Rattle.daachorse_core.specs.Seen.{SeenUnits}
 use Rattle.daachorse_model.specs.Folding.{as_read}
 use Rattle.daachorse_model.specs.Units.{size}

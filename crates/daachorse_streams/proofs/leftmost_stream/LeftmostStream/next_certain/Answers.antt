@@ -1,5 +1,5 @@
 -- A best match that is decided is given, and without one no more matches are certain than were given; at the end of the haystack each best match is given.
-use Rattle.std.proofs.Common.{◌≡◌, ◌++◌, ◌∷◌, [], ◌⊎◌, inl, inr, ℕ, Bool, true, false, cond, List, length, take, Option, Some, None, refl, sym, ap, ◌∙◌, subst, arith}
+use Rattle.std.proofs.Common.{◌≡◌, ◌++◌, ◌∷◌, [], ◌⊎◌, inl, inr, ℕ, true, false, cond, length, take, Option, None, sym, ap, ◌∙◌, subst, arith}
 use Rattle.std.specs.Prelude.{MatchOption}
 use Rattle.daachorse_core.specs.Seen.{SeenUnits}
 use Rattle.daachorse_model.specs.declared.Match.{Match}

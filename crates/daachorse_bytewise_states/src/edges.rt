@@ -4,10 +4,12 @@ ghost use Rattle.std.specs.Prelude.{◌≡◌, ◌<◌, ◌≤◌, ◌-◌, bit_
 ghost use Rattle.daachorse_core.specs.Outputs.{number};
 ghost use Rattle.daachorse_core.specs.Refusals.{IsOutOfMemory};
 ghost use Rattle.daachorse_array.specs.Depths.{IsDepthTable};
+ghost use Rattle.daachorse_streams.specs.Children.{HasMarks};
 ghost use Rattle.daachorse_bytewise_states.specs.declared.state.State.{State};
 ghost use Rattle.daachorse_bytewise_states.specs.Elements.{output_in};
 ghost use Rattle.daachorse_bytewise_states.specs.Grouped.{IsGrouped};
 ghost use Rattle.daachorse_bytewise_states.specs.Parts.{base_of, check_of, child, count, parts_with};
+ghost use Rattle.daachorse_bytewise_states.specs.Valid.{sees};
 
 use crate::for_kinds::{ByKind, ForKinds};
 use crate::state::State;
@@ -18,6 +20,7 @@ use daachorse_array::patterns::Keys;
 use daachorse_core::errors::Result;
 use daachorse_core::{Empty, MatchKind, Output};
 use daachorse_search::view::{ForLeftmost, ForStandard};
+use daachorse_streams::marks::child_marks;
 use std::alloc::Allocator;
 use std::marker::{Model, PhantomData};
 use std::num::NonZeroU32;
@@ -223,6 +226,32 @@ impl<V: Copy, A: Allocator + Copy> States<V, A> {
     {
         let elements = self.elements_in::<K>();
         depths(alloc, &elements)
+    }
+
+    /// For each element whether it has a child. Of a state that says whether its text goes on to a
+    /// pattern.
+    ///
+    /// # Errors
+    /// Out of memory.
+    pub fn child_marks(&self, alloc: A) -> Result<Vec<bool, A>>
+        ensures ok { IfOk result (λ v. HasMarks (sees self.now) v.items) }
+        ensures err { IfErr result IsOutOfMemory }
+    {
+        if self.kind().is_leftmost() {
+            self.child_marks_in::<ForLeftmost>(alloc)
+        } else {
+            self.child_marks_in::<ForStandard>(alloc)
+        }
+    }
+
+    /// [`Self::child_marks`], with the list of elements known at compile time.
+    fn child_marks_in<K: ForKinds>(&self, alloc: A) -> Result<Vec<bool, A>>
+        requires { K.fits self.now.kind }
+        ensures ok { IfOk result (λ v. HasMarks (sees self.now) v.items) }
+        ensures err { IfErr result IsOutOfMemory }
+    {
+        let elements = self.elements_in::<K>();
+        child_marks(alloc, &elements)
     }
 }
 

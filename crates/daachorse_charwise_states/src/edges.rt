@@ -4,12 +4,13 @@ ghost use Rattle.std.specs.Prelude.{◌≡◌, ◌<◌, ◌≤◌, ◌-◌, Some
 ghost use Rattle.daachorse_core.specs.Outputs.{number};
 ghost use Rattle.daachorse_core.specs.Refusals.{IsOutOfMemory};
 ghost use Rattle.daachorse_array.specs.Depths.{IsDepthTable};
+ghost use Rattle.daachorse_streams.specs.Children.{HasMarks};
 ghost use Rattle.daachorse_model.specs.Prefixes.{IsListing};
 ghost use Rattle.daachorse_charwise_states.specs.Codings.{IsCoding};
 ghost use Rattle.daachorse_charwise_states.specs.Edges.{AreCharacters, IsLettered, character_at, character_of, edge_of};
 ghost use Rattle.daachorse_charwise_states.specs.Parts.{base_of, check_of, child, content, count};
 ghost use Rattle.daachorse_charwise_states.specs.Texts.{AreTexts};
-ghost use Rattle.daachorse_charwise_states.specs.Valid.{AreFew, has_code};
+ghost use Rattle.daachorse_charwise_states.specs.Valid.{AreFew, has_code, sees};
 ghost use Rattle.daachorse_charwise_states.specs.Views.{parts_of};
 
 use crate::mapper::{CodeMapper, INVALID_CODE};
@@ -21,6 +22,7 @@ use daachorse_array::climbs::depths_by_parents;
 use daachorse_array::patterns::{Keys, PatternWalk};
 use daachorse_core::errors::Result;
 use daachorse_core::{MatchKind, Output};
+use daachorse_streams::marks::child_marks;
 use std::alloc::{Allocator, Global};
 use std::marker::Model;
 use std::num::NonZeroU32;
@@ -240,6 +242,19 @@ impl<V: Copy, A: Allocator + Copy> States<V, A> {
     {
         let elements = self.elements(alloc)?;
         depths_by_parents(alloc, &elements)
+    }
+
+    /// For each element whether it has a child. Of a state that says whether its text goes on to a
+    /// pattern.
+    ///
+    /// # Errors
+    /// Out of memory.
+    pub fn child_marks(&self, alloc: A) -> Result<Vec<bool, A>>
+        ensures ok { IfOk result (λ v. HasMarks (sees self.now) v.items) }
+        ensures err { IfErr result IsOutOfMemory }
+    {
+        let elements = self.elements(alloc)?;
+        child_marks(alloc, &elements)
     }
 
     /// All patterns with their values, in byte order, equal ones in order of registration.

@@ -7,7 +7,7 @@ whether the automaton is written and read back (0 no, 1 unchecked, 2 checked), w
 repository's may have a prefilter, whether ASCII case is ignored, the patterns, and the haystack.
 Texts are in hexadecimal; `_` is the empty text, and `-` an empty list. The expected results go to
 the file EXPECTED, one search a line: the case, the search, and the start, end and value of each
-match.
+match, and of a stream how many units were read when it is certain.
 """
 import random
 import sys
@@ -21,7 +21,7 @@ FORMS = {
     "overlapping": ["slice", "source", "stepper"],
     "no_suffix": ["slice", "source"],
     "find": ["slice", "source", "stepper"],
-    "leftmost": ["slice"],
+    "leftmost": ["slice", "stream"],
 }
 ALPHABETS = {
     "b": [b"ab", b"abc", b"aAbB", b"@AZ[`az{", bytes([0, 255]), bytes(range(256))],
@@ -95,6 +95,26 @@ def leftmost(values, haystack):
     return found
 
 
+def certain(values, read):
+    """How many matches of what was read each haystack that goes on from there begins with. Those that could change one go
+    on from some end of it to a pattern, or leave it as it is."""
+    rests = [p[k:] for p in values for k in range(len(p)) if read.endswith(p[:k])]
+    lists = [leftmost(values, read + rest) for rest in [read[:0], *rests]]
+    count = 0
+    while all(len(found) > count and found[count] == lists[0][count] for found in lists):
+        count += 1
+    return count
+
+
+def told(values, haystack):
+    """The leftmost matches, each with how many units were read when it is certain, or one more than there are."""
+    found, when, count = leftmost(values, haystack), [], len(haystack)
+    for read in range(count + 1):
+        when += [read] * (certain(values, haystack[:read]) - len(when))
+    when += [count + 1] * (len(found) - len(when))
+    return [(*m, w) for m, w in zip(found, when)]
+
+
 def digits(text):
     return bytes_of(text).hex() or "_"
 
@@ -133,8 +153,9 @@ def main(cases, expected, count, seed):
             values = dictionary(kind, patterns)
             for search in SEARCHES[kind]:
                 found = globals()[search](values, haystack)
-                line = "".join(f" {s},{e},{v}" for s, e, v in found)
                 for form in FORMS[search]:
+                    matches = told(values, haystack) if form == "stream" else found
+                    line = "".join(" " + ",".join(map(str, m)) for m in matches)
                     print(f"{number} {search} {form}{line}", file=wanted)
             listed = sorted((bytes_of(p), v) for p in values for v in values[p])
             print(f"{number} iter" + "".join(f" {p.hex() or '_'},{v}" for p, v in listed), file=wanted)

@@ -26,6 +26,7 @@ pub mod accelerated;
 pub mod builder;
 mod by_kind;
 pub mod iter;
+mod leftmost_streams;
 mod lookup;
 mod reader;
 mod replacing;

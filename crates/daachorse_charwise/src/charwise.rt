@@ -28,6 +28,7 @@ pub mod builder;
 mod by_kind;
 mod frequencies;
 pub mod iter;
+mod leftmost_streams;
 mod lookup;
 pub mod mapper;
 mod reader;

@@ -8,11 +8,13 @@ use Rattle.daachorse_core.specs.Seen.{SeenUnits, unread}
 use Rattle.daachorse_model.specs.declared.Match.{Match}
 use Rattle.daachorse_model.specs.Units.{size}
 use Rattle.daachorse_model.specs.Best.{IsSteady}
+use Rattle.daachorse_model.specs.Dictionary.{Dictionary}
 use Rattle.daachorse_model.specs.Certain.{AreCertain, BeginEach}
 use Rattle.daachorse_model.specs.Leftmost.{leftmost, leftmost_from}
 use Rattle.daachorse_model.proofs.Links.{none_before}
 use Rattle.daachorse_model.proofs.Occurrences.{occurs_length}
-use Rattle.daachorse_model.proofs.Suffixes.{size-push}
+use Rattle.daachorse_model.proofs.Suffixes.{size-append, size-push}
+use Rattle.daachorse_replacing.specs.Streams.{HasNoLonger}
 use Rattle.daachorse_search.specs.BestScans.{HasNoLongerKey}
 use Rattle.daachorse_search.specs.Views.{AutomatonView, IsLeftmostView}
 use Rattle.daachorse_streams.specs.declared.scan.Pending.{Pending}
@@ -23,7 +25,7 @@ use Rattle.daachorse_streams.specs.Scans.{IsPending, IsPendingSoFar, IsScan}
 use Rattle.daachorse_streams.specs.Searching.{IsSearching, Stands, given_of, passed_over, waits}
 use Rattle.daachorse_streams.proofs.GivingLaws.{now}
 use Rattle.daachorse_streams.proofs.LeftmostCertain.{begins_both, gives_none, goes_apart}
-use Rattle.daachorse_streams.proofs.SearchingLaws.{depth_at_first, given_is, walked_within}
+use Rattle.daachorse_streams.proofs.SearchingLaws.{depth_at_first, given_is, place_is, walked_within}
 
 over_more : (b : Bool) (ahead : List ℕ) (u : ℕ) → passed_over b ahead ≤ passed_over b (ahead ++ u ∷ [])
 over_more false ahead u = omega arith
@@ -34,6 +36,15 @@ over_few : (b : Bool) (ahead : List ℕ) → passed_over b ahead ≤ length ahea
 over_few false ahead = omega arith
 over_few true [] = omega arith
 over_few true (x ∷ ahead) = omega arith
+
+module _ (width : ℕ → ℕ) (wide : (u : ℕ) → 1 ≤ width u) where
+  no_more_units : (w : List ℕ) → length w ≤ size width w
+  no_more_units [] = omega arith
+  no_more_units (u ∷ w) = omega (arith, wide u, no_more_units w)
+
+  -- a key has at most as many units as bytes
+  pub units_within : {V : Type 0} {K : Dictionary V} {longest : ℕ} → HasNoLonger width K longest → HasNoLongerKey K longest
+  units_within none w key = omega (arith, none w key, no_more_units w)
 
 module _ {V : Type 0} (width : ℕ → ℕ) (wide : (u : ℕ) → 1 ≤ width u) (view : AutomatonView V) {U ALLOC : Type 0} (unit : U → ℕ) where
   -- nothing was read yet
@@ -75,6 +86,12 @@ module _ {V : Type 0} (width : ℕ → ℕ) (wide : (u : ℕ) → 1 ≤ width u)
         by : (d : Bool) → s.scan.decided ≡ d → waits d s.walked (length s.ring.items) ≡ false → (s.scan.decided ≡ false) × (s.walked ≡ length s.ring.items)
         by true e quiet = cc
         by false e quiet = (e, omega (arith, ltb-false s.walked (length s.ring.items) quiet, walked_within width view unit is))
+
+    -- where all units were read, the scan's place is behind them
+    pub behind_all : s.walked ≡ length s.ring.items → s.scan.place ≡ size width s.seen.since
+    behind_all all =
+        let none = none_ahead all in
+        omega (arith, place_is width view unit is, ap (size width) is.parts, ap (λ ahead. size width (is.passed ++ (is.w ++ ahead))) none, ap (λ w. size width (is.passed ++ w)) (append-nil is.w), size-append width is.passed is.w)
 
     -- where all units were read and none is decided, there is room for one more
     pub has_room : s.scan.decided ≡ false → s.walked ≡ length s.ring.items → length s.ring.items < deque_capacity s.ring

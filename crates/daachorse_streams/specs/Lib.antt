@@ -1,4 +1,5 @@
 pub mod Children
+pub mod Marked
 pub mod Marks
 pub mod Scans
 pub mod Searching

@@ -7,11 +7,12 @@ ghost use Rattle.daachorse_model.specs.Leftmost.{leftmost};
 ghost use Rattle.daachorse_model.specs.Units.{size};
 ghost use Rattle.daachorse_search.specs.BestScans.{HasNoLongerKey};
 ghost use Rattle.daachorse_search.specs.Views.{IsLeftmostView};
-ghost use Rattle.daachorse_streams.specs.Children.{HasMarks};
+ghost use Rattle.daachorse_streams.specs.Marked.{BeginsStreaming, IsMarkedFor};
 ghost use Rattle.daachorse_streams.specs.Streamed.{IsSameStream, IsSettled};
 
 use crate::scan::begin;
 use crate::search::{Search, give, walk};
+use crate::stream_marks::StreamMarks;
 use daachorse_core::Match;
 use daachorse_core::ascii_fold::AsciiFold;
 use daachorse_core::edge_label::EdgeLabel;
@@ -61,28 +62,22 @@ impl<'a, V: Copy, A: Automaton<V>, ALLOC: Allocator> Model for LeftmostStream<'a
 
 impl<'a, V: Copy, A: Automaton<V>, ALLOC: Allocator> LeftmostStream<'a, V, A, ALLOC> {
     /// A search that was given nothing yet. It takes all its memory here: for as many units as the
-    /// longest pattern has.
+    /// longest pattern has bytes.
     ///
     /// # Conditions
-    /// The automaton is for leftmost searches, `marks` says of each state whether its text goes on
-    /// to a longer one, and no pattern has more than `longest` units.
-    pub fn new(
+    /// The automaton is for leftmost searches, and the marks are its own.
+    pub fn new<B: Allocator>(
         alloc: ALLOC,
         automaton: A,
-        marks: &'a [bool],
-        longest: usize,
+        marks: &'a StreamMarks<B>,
         folds: bool,
     ) -> Result<Self, AllocError>
         requires kind { IsLeftmostView (A.sees automaton) }
-        requires marks { HasMarks (A.sees automaton) marks.now }
-        requires longest { HasNoLongerKey (A.sees automaton).content longest }
-        ensures automaton { IfOk result (λ s. s.automaton ≡ automaton) }
-        ensures folds { IfOk result (λ s. s.folds ≡ folds) }
-        ensures read { IfOk result (λ s. s.read ≡ []) }
-        ensures given { IfOk result (λ s. s.given ≡ []) }
-        ensures ended { IfOk result (λ s. s.ended ≡ false) }
-        ensures turns { IfOk result (λ s. s.turns ≡ 0) }
+        requires marks { IsMarkedFor A.Unit.width (A.sees automaton) marks.now }
+        ensures { IfOk result (BeginsStreaming automaton folds) }
     {
+        let longest = marks.longest;
+        let marks: &[bool] = &marks.children;
         let room = if longest == 0 { 1 } else { longest };
         let ring = VecDeque::with_capacity(alloc, room)?;
         let scan = begin(&automaton, marks, 0);
@@ -102,6 +97,18 @@ impl<'a, V: Copy, A: Automaton<V>, ALLOC: Allocator> LeftmostStream<'a, V, A, AL
             },
             of: PhantomData,
         })
+    }
+
+    /// The number of bytes consumed.
+    ///
+    /// # Conditions
+    /// All certain matches were asked for.
+    #[inline(always)]
+    pub fn place(&self) -> usize
+        requires { self.now.waiting ≡ false }
+        ensures { result ≡ size A.Unit.width self.now.read }
+    {
+        self.search.scan.place
     }
 
     /// Takes the next unit. It takes no memory, and looks at no state.

@@ -5,4 +5,5 @@ pub mod leftmost_stream;
 pub mod marks;
 mod scan;
 mod search;
+pub mod stream_marks;
 pub mod taking;

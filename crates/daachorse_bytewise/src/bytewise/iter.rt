@@ -16,6 +16,7 @@ use daachorse_search::matches_from_reader::MatchesFromReader;
 use daachorse_search::overlapping::{NoSuffixWalk, OverlappingWalk};
 use daachorse_search::reader::ReadBytes;
 use daachorse_search::{find_stepper, overlapping_stepper};
+use daachorse_streams::leftmost_stream;
 use std::alloc::Global;
 
 /// The iterator of `find_iter`: non-overlapping matches in a slice, by earliest end.
@@ -90,6 +91,14 @@ pub type LeftmostFindIterator<'a, V, A = Global, S = Leftmost<'a, V>> = Leftmost
     S,
     haystack::Bytes<'a>,
     Skipping<'a, A>,
+>;
+
+/// A search for leftmost matches that is given one byte at a time.
+pub type LeftmostStream<'a, V, B = Global, S = Leftmost<'a, V>> = leftmost_stream::LeftmostStream<
+    'a,
+    V,
+    S,
+    B,
 >;
 
 /// A search for non-overlapping matches that is given one byte at a time.

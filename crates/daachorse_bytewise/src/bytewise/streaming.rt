@@ -58,7 +58,7 @@ impl<V: Copy, A: Allocator + Copy> DoubleArrayAhoCorasick<V, A> {
     }
 
     /// The length of the longest pattern.
-    fn longest_pattern(&self) -> Result<usize>
+    pub(super) fn longest_pattern(&self) -> Result<usize>
         ensures ok { IfOk result (HasNoLonger byte_width (dictionary_of self.now)) }
         ensures err { IfErr result IsOutOfMemory }
     {

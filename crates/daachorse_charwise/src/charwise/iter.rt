@@ -19,6 +19,7 @@ use daachorse_search::matches_from_reader::MatchesFromReader;
 use daachorse_search::overlapping::{NoSuffixWalk, OverlappingWalk};
 use daachorse_search::read_chars::ReadChars;
 use daachorse_search::{find_stepper, overlapping_stepper};
+use daachorse_streams::leftmost_stream;
 use std::alloc::Global;
 
 /// The iterator of `find_iter`: non-overlapping matches in a text, by earliest end.
@@ -89,6 +90,14 @@ pub type LeftmostFindIterator<'a, V, A = Global, S = Leftmost<'a, V>> = Leftmost
     S,
     Text<'a>,
     Skipping<'a, A>,
+>;
+
+/// A search for leftmost matches that is given one character at a time.
+pub type LeftmostStream<'a, V, B = Global, S = Leftmost<'a, V>> = leftmost_stream::LeftmostStream<
+    'a,
+    V,
+    S,
+    B,
 >;
 
 /// A search for non-overlapping matches that is given one character at a time.

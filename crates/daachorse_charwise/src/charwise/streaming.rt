@@ -62,7 +62,7 @@ impl<V: Copy, A: Allocator + Copy> CharwiseDoubleArrayAhoCorasick<V, A> {
     }
 
     /// The length of the longest pattern, in bytes.
-    fn longest_pattern(&self) -> Result<usize>
+    pub(super) fn longest_pattern(&self) -> Result<usize>
         ensures ok { IfOk result (HasNoLonger char_width (dictionary_of self.now)) }
         ensures err { IfErr result IsOutOfMemory }
     {

@@ -1,0 +1,59 @@
+//! Leftmost matches in what is given character by character, each as soon as it is certain.
+
+ghost use Rattle.std.specs.Prelude.{◌≢◌, IfErr, IfOk};
+ghost use Rattle.daachorse_core.specs.Refusals.{IsOutOfMemory};
+ghost use Rattle.daachorse_model.specs.declared.MatchKind.TheVariants.{Standard};
+ghost use Rattle.daachorse_model.specs.Units.{char_width};
+ghost use Rattle.daachorse_charwise_states.specs.Valid.{sees};
+ghost use Rattle.daachorse_streams.specs.Marked.{BeginsStreaming, IsMarkedFor};
+ghost use Rattle.daachorse_charwise.specs.Automata.{kind_of, states_of};
+
+use super::CharwiseDoubleArrayAhoCorasick;
+use super::iter::LeftmostStream;
+use daachorse_core::errors::Result;
+use daachorse_streams::leftmost_stream;
+use daachorse_streams::stream_marks::StreamMarks;
+use std::alloc::Allocator;
+
+impl<V: Copy, A: Allocator + Copy> CharwiseDoubleArrayAhoCorasick<V, A> {
+    /// Makes what leftmost streams over this automaton share: a byte for each state, and the length
+    /// of the longest pattern.
+    ///
+    /// It goes over the states and the patterns, for which it takes what [`Self::iter`] takes, and
+    /// fails only if an allocation fails.
+    pub fn stream_marks(&self, alloc: A) -> Result<StreamMarks<A>>
+        ensures ok { IfOk result (IsMarkedFor char_width (sees (states_of self.now))) }
+        ensures err { IfErr result IsOutOfMemory }
+    {
+        let longest = self.longest_pattern()?;
+        let children = self.states.child_marks(alloc)?;
+        Ok(StreamMarks { children, longest })
+    }
+}
+
+impl<V: Copy, A: Allocator> CharwiseDoubleArrayAhoCorasick<V, A> {
+    /// Starts the search of [`Self::leftmost_find_iter`], to be given one character at a time.
+    ///
+    /// Each match is given as soon as no character that follows can change it: of `ab` and `abcd`,
+    /// the match `ab` in `abce` is given after the `e`. It holds at most as many characters as the
+    /// longest pattern has bytes, for which it allocates here and then never.
+    ///
+    /// # Conditions
+    /// The automaton is no [`MatchKind::Standard`] one, and the marks are those that it made.
+    ///
+    /// [`MatchKind::Standard`]: daachorse_core::MatchKind::Standard
+    pub fn leftmost_stream<'a, B: Allocator, C: Allocator>(
+        &'a self,
+        alloc: B,
+        marks: &'a StreamMarks<C>,
+    ) -> Result<LeftmostStream<'a, V, B>>
+        requires kind { kind_of self.now ≢ Standard }
+        requires marks { IsMarkedFor char_width (sees (states_of self.now)) marks.now }
+        ensures ok { IfOk result (BeginsStreaming (states_of self.entry.now) self.entry.now.folds) }
+        ensures err { IfErr result IsOutOfMemory }
+    {
+        let states = self.states.leftmost();
+        let stream = leftmost_stream::LeftmostStream::new(alloc, states, marks, self.folds)?;
+        Ok(stream)
+    }
+}

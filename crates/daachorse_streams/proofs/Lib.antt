@@ -3,4 +3,5 @@ pub mod ScanLaws
 pub mod SearchingLaws
 pub mod GivingLaws
 pub mod StreamLaws
+pub mod ReadingLaws
 pub mod MarkLaws

@@ -1,4 +1,5 @@
 pub mod Children
+pub mod LeftmostReading
 pub mod Marked
 pub mod Marks
 pub mod Scans

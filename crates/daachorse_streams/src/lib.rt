@@ -1,6 +1,7 @@
 //! Leftmost matches in what is given unit by unit, each as soon as it is certain.
 #![tactic(auto)]
 
+pub mod leftmost_from_reader;
 pub mod leftmost_stream;
 pub mod marks;
 mod scan;

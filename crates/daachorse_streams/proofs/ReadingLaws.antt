@@ -64,55 +64,22 @@ module _ {S U : Type 0} (can : S → Type 0) (steps : S → Option U → S → T
       (subst P (ap (λ w. read ++ w) (units-as_read folds unit (x ∷ [])) ∙ sym more)
       (MayReadAsRead-kept can steps left unit width as_wide may_read kept folds s read (x ∷ []) t may (t, step, refl) (let on = goes.on is_ready.ends in omega (arith, on.2)) next))
 
-module _ {V A S U : Type 0} (width : ℕ → ℕ) (sees : A → AutomatonView V) (steps : S → Option U → S → Type 0) (left : S → Count) (unit : U → ℕ) (failure : S → Option Error) (s : LeftmostStreamed V A) (from : S) where
-  abbrev Takes' : List U → S → LeftmostStreamed V A → Type 0
-  Takes' xs to t = TakesUnits width sees steps left unit failure s from xs to × HasRead width sees steps left unit failure s xs t
-
-  -- nothing was taken yet
-  pub takes_none : Takes' [] from s
-  takes_none = (
-    record { took = refl; fewer = omega arith; needed = inl refl },
-    record { same = refl; folds = refl; read = none_read s.folds s.read },
-  )
-
-  module _ {xs : List U} {to : S} {t : LeftmostStreamed V A} (takes : Takes' xs to t) where
-    pub takes_same : (new : LeftmostStreamed V A) → IsSameStream t new → Takes' xs to new
-    takes_same new same = let reads = takes.1 in (takes.0, record { same = same.0 ∙ reads.same; folds = same.1 ∙ reads.folds; read = same.2 ∙ reads.read })
-
-    -- what is certain is so of what was taken
-    pub given_all : t.given ≡ s.given → AreCertain width (sees t.automaton).content t.read t.given → HasGivenAll width sees steps left unit failure s xs
-    given_all given certain =
-        let reads = takes.1 in
-        let P : A → Type 0 = λ a. AreCertain width (sees a).content t.read t.given in
-        let Q : List ℕ → Type 0 = λ w. AreCertain width (sees s.automaton).content w t.given in
-        let R : List (Match V) → Type 0 = λ ms. AreCertain width (sees s.automaton).content (s.read ++ as_read s.folds (map unit xs)) ms in
-        subst R given (subst Q reads.read (subst P reads.same certain))
-
-    -- one more unit was taken, where no other match was certain
-    pub takes_more : HasGivenAll width sees steps left unit failure s xs → (x : U) (later : S) → steps to (Some x) later → items_left left later < items_left left to
-        → (new : LeftmostStreamed V A) → new.automaton ≡ t.automaton → new.folds ≡ t.folds → new.read ≡ t.read ++ as_read t.folds (unit x ∷ []) → Takes' (xs ++ x ∷ []) later new
-    takes_more all x later step less new same folds read =
-        let units = takes.0 in let reads = takes.1 in
-        let more : List ℕ = as_read s.folds (map unit xs) in (
-          record {
-            took = Yields_push steps from xs to x later units.took step;
-            fewer = omega (arith, units.fewer, less, length-append xs (x ∷ []));
-            needed = inr (xs, x, refl, all);
-          },
-          record {
-            same = same ∙ reads.same;
-            folds = folds ∙ reads.folds;
-            read =
-                read
-                ∙ ap (λ b. t.read ++ as_read b (unit x ∷ [])) reads.folds
-                ∙ ap (λ w. w ++ as_read s.folds (unit x ∷ [])) reads.read
-                ∙ append_assoc s.read more (as_read s.folds (unit x ∷ []))
-                ∙ ap (λ w. s.read ++ w) (sym (as_read-append s.folds (map unit xs) (unit x ∷ [])) ∙ ap (as_read s.folds) (sym (map-append unit xs (x ∷ []))));
-          },
-        )
+read_long : {V A U : Type 0} (unit : U → ℕ) (s : LeftmostStreamed V A) (xs : List U) → length (s.read ++ as_read s.folds (map unit xs)) ≡ length s.read + length xs
+read_long unit s xs = omega (arith, length-append s.read (as_read s.folds (map unit xs)), length-as_read s.folds (map unit xs), length-map xs unit)
 
 module _ {V A S U : Type 0} (width : ℕ → ℕ) (sees : A → AutomatonView V) (steps : S → Option U → S → Type 0) (left : S → Count) (unit : U → ℕ) (failure : S → Option Error) where
-  -- The source has ended with no error, and no other match was certain before.
+  -- the units xs were taken, and read
+  pub record HasTaken (s : LeftmostStreamed V A) (from : S) (xs : List U) (to : S) (t : LeftmostStreamed V A) : Type 0 where
+    pub takes : TakesUnits width sees steps left unit failure s from xs to
+    pub reads : HasRead width sees steps left unit failure s xs t
+
+  pub HasTaken-none : (s : LeftmostStreamed V A) (from : S) → HasTaken s from [] from s
+  HasTaken-none s from = record {
+    takes = record { took = refl; fewer = omega arith; needed = inl refl };
+    reads = record { same = refl; folds = refl; read = none_read s.folds s.read };
+  }
+
+  -- The source has ended with no error, where no other match was certain.
   pub record AtEnd (s : LeftmostReading V A S) (t : LeftmostStreamed V A) : Type 0 where
     pub xs : List U
     pub takes : Takes width sees steps left unit failure s.stream s.source xs None
@@ -125,11 +92,55 @@ module _ {V A S U : Type 0} (width : ℕ → ℕ) (sees : A → AutomatonView V)
       let P : Option S → Type 0 = λ o. Takes width sees steps left unit failure s.stream o [] None in
       record { xs = []; takes = subst P (sym none) refl; reads = record { same = refl; folds = refl; read = none_read s.stream.folds s.stream.read }; given = refl }
 
-  -- it ends now
-  pub ends_now : (s : LeftmostReading V A S) (from to : S) → s.source ≡ Some from → (xs : List U) → TakesAll width sees steps left unit failure s.stream from xs (failure to) → failure to ≡ None
-      → (t new : LeftmostStreamed V A) → HasRead width sees steps left unit failure s.stream xs t → t.given ≡ s.stream.given
-      → new.automaton ≡ t.automaton → new.folds ≡ t.folds → new.read ≡ t.read → new.given ≡ t.given → AtEnd s new
-  ends_now s from to some xs all fails t new reads given same folds read as_before =
+  -- no more units were taken than were left
+  taken : (s : LeftmostStreamed V A) (source later : Option S) (xs : List U) → Takes width sees steps left unit failure s source xs later → length xs + (units_left left later).bound ≤ (units_left left source).bound
+  taken s (Some from) (Some to) xs takes = takes.fewer
+  taken s (Some from) None xs takes = omega (arith, takes.few)
+  taken s None None xs takes = omega (arith, ap length takes)
+  taken s None (Some to) xs takes = absurd takes
+
+module _ {V A S U : Type 0} {width : ℕ → ℕ} {sees : A → AutomatonView V} {steps : S → Option U → S → Type 0} {left : S → Count} {unit : U → ℕ} {failure : S → Option Error} where
+  module _ {s t : LeftmostStreamed V A} {from to : S} {xs : List U} (is : HasTaken width sees steps left unit failure s from xs to t) where
+    pub HasTaken-same : (new : LeftmostStreamed V A) → IsSameStream t new → HasTaken width sees steps left unit failure s from xs to new
+    HasTaken-same new same = let reads = is.reads in record { takes = is.takes; reads = record { same = same.0 ∙ reads.same; folds = same.1 ∙ reads.folds; read = same.2 ∙ reads.read } }
+
+    -- what is certain is so of what was taken
+    pub given_all : t.given ≡ s.given → AreCertain width (sees t.automaton).content t.read t.given → HasGivenAll width sees steps left unit failure s xs
+    given_all given certain =
+        let P : A → Type 0 = λ a. AreCertain width (sees a).content t.read t.given in
+        let Q : List ℕ → Type 0 = λ w. AreCertain width (sees s.automaton).content w t.given in
+        let R : List (Match V) → Type 0 = λ ms. AreCertain width (sees s.automaton).content (s.read ++ as_read s.folds (map unit xs)) ms in
+        subst R given (subst Q is.reads.read (subst P is.reads.same certain))
+
+    -- one more unit was taken, where no other match was certain
+    pub HasTaken-more : HasGivenAll width sees steps left unit failure s xs → (x : U) (later : S) → steps to (Some x) later → items_left left later < items_left left to
+        → (new : LeftmostStreamed V A) → new.automaton ≡ t.automaton → new.folds ≡ t.folds → new.read ≡ t.read ++ as_read t.folds (unit x ∷ []) → HasTaken width sees steps left unit failure s from (xs ++ x ∷ []) later new
+    HasTaken-more all x later step less new same folds read =
+        let units = is.takes in let reads = is.reads in
+        let one : List ℕ = unit x ∷ [] in
+        record {
+          takes = record {
+            took = Yields_push steps from xs to x later units.took step;
+            fewer = omega (arith, units.fewer, less, length-append xs (x ∷ []));
+            needed = inr (xs, x, refl, all);
+          };
+          reads = record {
+            same = same ∙ reads.same;
+            folds = folds ∙ reads.folds;
+            read =
+                read
+                ∙ ap (λ b. t.read ++ as_read b one) reads.folds
+                ∙ ap (λ w. w ++ as_read s.folds one) reads.read
+                ∙ append_assoc s.read (as_read s.folds (map unit xs)) (as_read s.folds one)
+                ∙ ap (λ w. s.read ++ w) (sym (as_read-append s.folds (map unit xs) one) ∙ ap (as_read s.folds) (sym (map-append unit xs (x ∷ []))));
+          };
+        }
+
+  -- the source ends now
+  pub ends_now : {s : LeftmostReading V A S} {t : LeftmostStreamed V A} {from to : S} {xs : List U} → s.source ≡ Some from → TakesAll width sees steps left unit failure s.stream from xs (failure to)
+      → HasRead width sees steps left unit failure s.stream xs t → t.given ≡ s.stream.given → failure to ≡ None
+      → (new : LeftmostStreamed V A) → new.automaton ≡ t.automaton → new.folds ≡ t.folds → new.read ≡ t.read → new.given ≡ t.given → AtEnd width sees steps left unit failure s new
+  ends_now {s = s} {from = from} {xs = xs} some all reads given fails new same folds read as_before =
       let P : Option S → Type 0 = λ o. Takes width sees steps left unit failure s.stream o xs None in
       let E : Option Error → Type 0 = λ e. TakesAll width sees steps left unit failure s.stream from xs e in
       record {
@@ -139,7 +150,7 @@ module _ {V A S U : Type 0} (width : ℕ → ℕ) (sees : A → AutomatonView V)
         given = as_before ∙ given;
       }
 
-  module _ {s : LeftmostReading V A S} {t : LeftmostStreamed V A} (is : AtEnd s t) where
+  module _ {s : LeftmostReading V A S} {t : LeftmostStreamed V A} (is : AtEnd width sees steps left unit failure s t) where
     -- the matches that are left are given
     pub gave_last : (m : Match V) (new : LeftmostStreamed V A) → IsSameStream t new → new.given ≡ t.given ++ m ∷ [] → (rest : List (Match V)) × (leftmost width (sees new.automaton).content new.read ≡ new.given ++ rest)
         → GaveLeftmost width sees steps left unit failure s is.xs m (record { stream = new; source = None })
@@ -160,52 +171,38 @@ module _ {V A S U : Type 0} (width : ℕ → ℕ) (sees : A → AutomatonView V)
           sym is.given ∙ sym given ∙ all ∙ ap (λ a. leftmost width (sees a).content new.read) (same.0 ∙ is.reads.same) ∙ ap (leftmost width K) (same.2 ∙ is.reads.read),
         )
 
-  taken : (s : LeftmostStreamed V A) (source later : Option S) (xs : List U) → Takes width sees steps left unit failure s source xs later → length xs + (units_left left later).bound ≤ (units_left left source).bound
-  taken s (Some from) (Some to) xs takes = takes.fewer
-  taken s (Some from) None xs takes = omega (arith, takes.few)
-  taken s None None xs takes = omega (arith, ap length takes)
-  taken s None (Some to) xs takes = absurd takes
-
-  read_long : (s : LeftmostStreamed V A) (xs : List U) → length (s.read ++ as_read s.folds (map unit xs)) ≡ length s.read + length xs
-  read_long s xs = omega (arith, length-append s.read (as_read s.folds (map unit xs)), length-as_read s.folds (map unit xs), length-map xs unit)
-
-  -- a match leaves fewer to give
-  pub fewer_to_give : (s t : LeftmostReading V A S) (xs : List U) (m : Match V) → GaveLeftmost width sees steps left unit failure s xs m t → (items_to_give left (Some t)).bound < (items_to_give left (Some s)).bound
-  fewer_to_give s t xs m gave =
-      omega (
-        arith,
-        taken s.stream s.source t.source xs gave.takes,
-        ap length gave.reads.read,
-        read_long s.stream xs,
-        ap length gave.given,
-        length-append s.stream.given (m ∷ []),
-        ap length gave.first.1,
-        length-append t.stream.given gave.first.0,
-        few_matches width (sees t.stream.automaton).content t.stream.read,
-      )
-
-  -- before an error there is an item to give
-  pub some_to_give : (s : LeftmostStreamed V A) (from : S) (xs : List U) (error : Option Error) → TakesAll width sees steps left unit failure s from xs error → 0 < (items_to_give left (Some (record { stream = s; source = Some from }))).bound
-  some_to_give s from xs error all =
-      let read : List ℕ = s.read ++ as_read s.folds (map unit xs) in
-      let first = all.needed.0 [] in
-      omega (
-        arith,
-        all.few,
-        read_long s xs,
-        ap length (append-nil read),
-        ap length first.1,
-        length-append s.given first.0,
-        few_matches width (sees s.automaton).content (read ++ []),
-      )
-
   module _ (can : Option (LeftmostReading V A S) → Type 0) (may : (x : Option (LeftmostReading V A S)) → can x) {R : Type 0} (r : R) {before : Option (LeftmostReading V A S)} {s : LeftmostReading V A S} (was : before ≡ Some s) where
-    pub goes_on : (t : LeftmostReading V A S) (xs : List U) (m : Match V) → GaveLeftmost width sees steps left unit failure s xs m t → IsFinite (units_left left t.source) → MakesProgress can (items_to_give left) before (Some r) (Some t)
-    goes_on t xs m gave finite =
+    -- a match leaves fewer to give
+    pub goes_on : {t : LeftmostReading V A S} {xs : List U} {m : Match V} → GaveLeftmost width sees steps left unit failure s xs m t → IsFinite (units_left left t.source) → MakesProgress can (items_to_give left) before (Some r) (Some t)
+    goes_on {t = t} {xs = xs} {m = m} gave finite =
         let P : Option (LeftmostReading V A S) → Type 0 = λ x. MakesProgress can (items_to_give left) x (Some r) (Some t) in
-        subst P (sym was) (record { on = λ _. (may (Some t), finite, fewer_to_give s t xs m gave); keeps = may (Some t); rests = λ _. tt })
+        let fewer : (items_to_give left (Some t)).bound < (items_to_give left (Some s)).bound = omega (
+          arith,
+          taken width sees steps left unit failure s.stream s.source t.source xs gave.takes,
+          ap length gave.reads.read,
+          read_long unit s.stream xs,
+          ap length gave.given,
+          length-append s.stream.given (m ∷ []),
+          ap length gave.first.1,
+          length-append t.stream.given gave.first.0,
+          few_matches width (sees t.stream.automaton).content t.stream.read,
+        ) in
+        subst P (sym was) (record { on = λ _. (may (Some t), finite, fewer); keeps = may (Some t); rests = λ _. tt })
 
-    pub goes_to_error : 0 < (items_to_give left (Some s)).bound → MakesProgress can (items_to_give left) before (Some r) None
-    goes_to_error some =
+    -- and so does an error
+    pub goes_to_error : {from : S} {xs : List U} {error : Option Error} → s.source ≡ Some from → TakesAll width sees steps left unit failure s.stream from xs error → MakesProgress can (items_to_give left) before (Some r) None
+    goes_to_error {from = from} {xs = xs} some all =
         let P : Option (LeftmostReading V A S) → Type 0 = λ x. MakesProgress can (items_to_give left) x (Some r) None in
-        subst P (sym was) (record { on = λ _. (may None, tt, some); keeps = may None; rests = λ _. tt })
+        let read : List ℕ = s.stream.read ++ as_read s.stream.folds (map unit xs) in
+        let first = all.needed.0 [] in
+        let left_over : 0 < (items_to_give left (Some s)).bound = omega (
+          arith,
+          all.few,
+          ap (λ o. (units_left left o).bound) some,
+          read_long unit s.stream xs,
+          ap length (append-nil read),
+          ap length first.1,
+          length-append s.stream.given first.0,
+          few_matches width (sees s.stream.automaton).content (read ++ []),
+        ) in
+        subst P (sym was) (record { on = λ _. (may None, tt, left_over); keeps = may None; rests = λ _. tt })

@@ -1,26 +1,23 @@
 -- The loop over a source: what it took so far is what its stepper read, and went out but for what is held.
-use Rattle.std.proofs.Common.{◌≡◌, ℕ, ◌+◌, ◌<◌, ◌≤◌, ◌^◌, Bool, true, false, List, [], ◌∷◌, ◌++◌, length, map, Option, Some, None, Result, refl, sym, ap, ◌∙◌, subst, append-nil, arith}
-use Rattle.std.proofs.lemmas.List.{map-append}
-use Rattle.std.proofs.lemmas.Grind.{flat_map-append}
+use Rattle.std.proofs.Common.{◌≡◌, ℕ, ◌+◌, ◌<◌, ◌≤◌, ◌^◌, Bool, List, [], ◌∷◌, ◌++◌, length, Option, Some, None, Result, refl, sym, subst}
 use Rattle.std.specs.Prelude.{IfSome, flat_map, option_to_list}
 use Rattle.std.specs.Borrow.{MutBor}
 use Rattle.std.specs.Io.KnownBytes.{Appends}
-use Rattle.std.specs.Iterator.{Count, MakesProgress, Yields}
+use Rattle.std.specs.Iterator.{Count, MakesProgress}
 use Rattle.std.specs.declared.io.Error.{Error}
 use Rattle.daachorse_model.specs.declared.Match.{Match}
 use Rattle.daachorse_model.specs.Dictionary.{Dictionary}
 use Rattle.daachorse_model.specs.Folding.{as_read, folded_unit}
 use Rattle.daachorse_model.specs.Matches.{standard, standard_after}
 use Rattle.daachorse_model.specs.Units.{size}
-use Rattle.daachorse_model.proofs.FoldLaws.{as_read-append, size-as_read}
 use Rattle.daachorse_haystack.specs.Sources.{IsReady}
-use Rattle.daachorse_haystack.proofs.SourceLaws.{IsReady-more, IsReady-next, Yields_push}
 use Rattle.daachorse_replacing.specs.Replaced.{AppendsBeginning}
 use Rattle.daachorse_replacing.specs.ReplacedWith.{IsReplaced, IsReplacedSoFar}
 use Rattle.daachorse_replacing.specs.Streams.{EndsWithin, HasNoLonger, IsStreamed, IsStreamedSoFar, Settles, SettlesSoFar}
 use Rattle.daachorse_replacing.proofs.LeadsOn.{so_far_nothing}
 use Rattle.daachorse_replacing.proofs.SentLaws.{IsSent, sent-first, sent-more, sent-settled, sent-whole, sent-within, unsent-settled, unsent-whole}
 use Rattle.daachorse_replacing.proofs.StandardMatches.{standard-first, standard-more}
+use Rattle.daachorse_replacing.proofs.TakesLaws.{Takes, form_more, sized_unit, takes-first, takes-fits, takes-more}
 
 module _ {V P O F S U : Type 0} (bytes : P → List ℕ) (taken : O → Option (List ℕ)) (step : F → Match V → P → MutBor O → Result (Unit {0}) Error → MutBor O → F → Type 0) (first : F) (old : O)
     (can : S → Type 0) (steps : S → Option U → S → Type 0) (left : S → Count) (failure : S → Option Error) (unit : U → ℕ) (form : U → List ℕ) (width : ℕ → ℕ)
@@ -35,31 +32,22 @@ module _ {V P O F S U : Type 0} (bytes : P → List ℕ) (taken : O → Option (
   -- at the head of the loop: of the units taken, the match that ends with the last is still to come
   pub record Goes (read : List ℕ) (s : S) (held : List ℕ) (f : F) (out : O) : Type 0 where
     pub units : List U
-    pub took : Yields steps source units s
-    pub ready : IsReady can steps left unit width s (size width (map unit units))
-    pub is : read ≡ as_read folds (map unit units)
+    pub takes : Takes can steps left unit width folds source units read s
     pub done : List (Match V)
     pub gains : standard width K read ≡ done ++ option_to_list (standard_after width K read)
     pub sent : Sent (flat_map form units) read done held f out
 
-  module _ (wide : (u : ℕ) → 1 ≤ width u) (as_wide : (u : ℕ) → width (folded_unit u) ≡ width u) where
-    pub goes-first : IsReady can steps left unit width source 0 → (read held : List ℕ) → read ≡ [] → held ≡ [] → Goes read source held first old
-    goes-first ready read held none empty =
-        let R : List ℕ → Type 0 = λ l. Goes l source held first old in
-        let H : List ℕ → Type 0 = λ l. Goes [] source l first old in
-        subst R (sym none) (subst H (sym empty) (record {
-          units = [];
-          took = refl;
-          ready = ready;
-          is = nothing folds;
-          done = [];
-          gains = standard-first width K wide;
-          sent = sent-first bytes taken step first old width K longest;
-        }))
-      where
-        nothing : (b : Bool) → [] ≡ as_read b []
-        nothing true = refl
-        nothing false = refl
+  pub goes-first : ((u : ℕ) → 1 ≤ width u) → IsReady can steps left unit width source 0 → (read held : List ℕ) → read ≡ [] → held ≡ [] → Goes read source held first old
+  goes-first wide ready read held none empty =
+      let R : List ℕ → Type 0 = λ l. Goes l source held first old in
+      let H : List ℕ → Type 0 = λ l. Goes [] source l first old in
+      subst R (sym none) (subst H (sym empty) (record {
+        units = [];
+        takes = takes-first can steps left unit width folds source ready [] refl;
+        done = [];
+        gains = standard-first width K wide;
+        sent = sent-first bytes taken step first old width K longest;
+      }))
 
 module _ {V P O F S U : Type 0} {bytes : P → List ℕ} {taken : O → Option (List ℕ)} {step : F → Match V → P → MutBor O → Result (Unit {0}) Error → MutBor O → F → Type 0} {first : F} {old : O}
     {can : S → Type 0} {steps : S → Option U → S → Type 0} {left : S → Count} {failure : S → Option Error} {unit : U → ℕ} {form : U → List ℕ} {width : ℕ → ℕ}
@@ -68,12 +56,9 @@ module _ {V P O F S U : Type 0} {bytes : P → List ℕ} {taken : O → Option (
     pub goes-within : (found : Option (Match V)) → found ≡ standard_after width K read → IfSome found (EndsWithin held)
     goes-within found here = sent-within bytes taken step first old width K longest bound h.sent found here h.gains
 
-    sized : size width read ≡ size width (map unit h.units)
-    sized = ap (size width) h.is ∙ size-as_read width as_wide folds (map unit h.units)
-
     -- the place behind the next unit fits
     pub goes-fits : (u : U) (t : S) → steps s (Some u) t → MakesProgress can left s (Some u) t → size width read + width (unit u) < 2 ^ 64
-    goes-fits u t took goes = omega (arith, sized, IsReady-next can steps left unit width s u t (size width (map unit h.units)) h.ready took goes)
+    goes-fits u t took goes = takes-fits can steps left unit width folds source as_wide h.takes u t took goes
 
     -- the output or the call for a match refused
     pub stops-settling : (found : Option (Match V)) → found ≡ standard_after width K read → (new : O) → SettlesSoFar bytes taken step found held f out new
@@ -81,10 +66,10 @@ module _ {V P O F S U : Type 0} {bytes : P → List ℕ} {taken : O → Option (
     stops-settling found here new part = record {
       units = h.units;
       last = s;
-      took = h.took;
+      took = h.takes.took;
       replaced =
           let R : List ℕ → Type 0 = λ l. IsReplacedSoFar bytes taken (flat_map form h.units) step (standard width K l) first old new in
-          subst R h.is (unsent-settled bytes taken step first old width K longest bound h.sent found here h.gains new part);
+          subst R h.takes.is (unsent-settled bytes taken step first old width K longest bound h.sent found here h.gains new part);
     }
 
     module _ (found : Option (Match V)) (here : found ≡ standard_after width K read) (rest : List ℕ) (g : F) (new : O) (settles : Settles bytes taken step longest found held f out rest g new) where
@@ -98,12 +83,12 @@ module _ {V P O F S U : Type 0} {bytes : P → List ℕ} {taken : O → Option (
         units = h.units;
         last = s;
         ended = ended;
-        took = h.took;
+        took = h.takes.took;
         ends = ends;
         whole = whole;
         replaced =
             let R : List ℕ → Type 0 = λ l. IsReplaced bytes taken (flat_map form h.units) step (standard width K l) first old last in
-            subst R h.is (sent-whole bytes taken step first old width K longest bound settled last went);
+            subst R h.takes.is (sent-whole bytes taken step first old width K longest bound settled last went);
       }
 
       -- the output refused some of what was held, or nothing more went to it
@@ -111,27 +96,23 @@ module _ {V P O F S U : Type 0} {bytes : P → List ℕ} {taken : O → Option (
       stops-settled last part = record {
         units = h.units;
         last = s;
-        took = h.took;
+        took = h.takes.took;
         replaced =
             let R : List ℕ → Type 0 = λ l. IsReplacedSoFar bytes taken (flat_map form h.units) step (standard width K l) first old last in
-            subst R h.is (unsent-whole bytes taken step first old width K longest bound settled last part);
+            subst R h.takes.is (unsent-whole bytes taken step first old width K longest bound settled last part);
       }
 
       -- one unit more
       pub goes-more : (u : U) (t : S) (after more : List ℕ) → steps s (Some u) t → MakesProgress can left s (Some u) t → length (form u) ≡ width (unit u)
           → after ≡ read ++ as_read folds (unit u ∷ []) → more ≡ rest ++ form u → Goes bytes taken step first old can steps left failure unit form width K longest folds source after t more g new
       goes-more u t after more took goes long reads holds =
-          let units = map-append unit h.units (u ∷ []) in
-          let text : flat_map form (h.units ++ u ∷ []) ≡ flat_map form h.units ++ form u =
-          flat_map-append form h.units (u ∷ []) ∙ ap (λ l. flat_map form h.units ++ l) (append-nil (form u)) in
-          let one : length (form u) ≡ size width (as_read folds (unit u ∷ [])) = omega (arith, long, size-as_read width as_wide folds (unit u ∷ [])) in
+          let text = form_more form h.units u in
+          let one = sized_unit unit form width as_wide folds u long in
           let next : IsSent bytes taken step first old width K longest (flat_map form h.units ++ form u) (read ++ as_read folds (unit u ∷ [])) (standard width K read) (rest ++ form u) g new =
           sent-more bytes taken step first old width K longest settled (form u) (as_read folds (unit u ∷ [])) one in
           record {
             units = h.units ++ u ∷ [];
-            took = Yields_push steps source h.units s u t h.took took;
-            ready = IsReady-more can steps left unit width s u t (map unit h.units) (map unit (h.units ++ u ∷ [])) h.ready took goes units;
-            is = reads ∙ ap (λ l. l ++ as_read folds (unit u ∷ [])) h.is ∙ sym (as_read-append folds (map unit h.units) (unit u ∷ [])) ∙ ap (as_read folds) (sym units);
+            takes = takes-more can steps left unit width folds source as_wide h.takes u t after took goes reads;
             done = standard width K read;
             gains =
                 let Q : List ℕ → Type 0 = λ l. standard width K l ≡ standard width K read ++ option_to_list (standard_after width K l) in

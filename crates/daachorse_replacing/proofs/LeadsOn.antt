@@ -11,6 +11,7 @@ use Rattle.daachorse_model.specs.Laws.{Follows}
 use Rattle.daachorse_model.proofs.Overlap.{Follows-earlier}
 use Rattle.daachorse_replacing.specs.Replaced.{AppendsBeginning}
 use Rattle.daachorse_replacing.specs.ReplacedWith.{IsReplaced, IsReplacedFrom, IsReplacedSoFar, IsReplacedSoFarFrom, MayWriteFor}
+use Rattle.daachorse_replacing.specs.Streams.{LeadsOn}
 
 -- a beginning of a part is one of the whole
 pub AppendsBeginning-take : (old new : Option (List ℕ)) (n : ℕ) (text : List ℕ) → AppendsBeginning old new (take n text) → AppendsBeginning old new text
@@ -37,21 +38,19 @@ rest_joined : (text : List ℕ) (s n : ℕ) → drop s text ≡ take n (drop s t
 rest_joined text s n = sym (take-append-drop n (drop s text)) ∙ ap (λ l. take n (drop s text) ++ l) (drop-drop n s text)
 
 module _ {V P O E F : Type 0} (bytes : P → List ℕ) (taken : O → Option (List ℕ)) (step : F → Match V → P → MutBor O → Result (Unit {0}) E → MutBor O → F → Type 0) (first : F) (old : O) where
-  -- from f and this output at s on, whatever comes of more matches and more bytes comes of those before and more from the start
-  pub record LeadsOn (text : List ℕ) (done : List (Match V)) (s : ℕ) (f : F) (out : O) : Type 0 where
-    pub all : (more : List ℕ) (ms : List (Match V)) (new : O) → Follows s ms → IsReplacedFrom bytes taken (text ++ more) step s ms f out new → IsReplaced bytes taken (text ++ more) step (done ++ ms) first old new
-    pub some : (more : List ℕ) (ms : List (Match V)) (new : O) → Follows s ms → IsReplacedSoFarFrom bytes taken (text ++ more) step s ms f out new → IsReplacedSoFar bytes taken (text ++ more) step (done ++ ms) first old new
+  abbrev Leads : List ℕ → List (Match V) → ℕ → F → O → Type 0
+  Leads = LeadsOn bytes taken step first old
 
   -- nothing went out yet, whatever the matches are
   pub so_far_nothing : (text : List ℕ) (s : ℕ) (ms : List (Match V)) → IsReplacedSoFarFrom bytes taken text step s ms first old old
   so_far_nothing text s [] = AppendsBeginning-nothing (taken old) (drop s text)
   so_far_nothing text s (m ∷ ms) = inl (AppendsBeginning-nothing (taken old) (slice_range text s m.start))
 
-  pub leads_from_start : LeadsOn [] [] 0 first old
+  pub leads_from_start : Leads [] [] 0 first old
   leads_from_start = record { all = λ more ms new after h. h; some = λ more ms new after h. h }
 
   -- more bytes came
-  pub leads_over : (text : List ℕ) (done : List (Match V)) (s : ℕ) (f : F) (out : O) (next : List ℕ) → LeadsOn text done s f out → LeadsOn (text ++ next) done s f out
+  pub leads_over : (text : List ℕ) (done : List (Match V)) (s : ℕ) (f : F) (out : O) (next : List ℕ) → Leads text done s f out → Leads (text ++ next) done s f out
   leads_over text done s f out next h = record {
     all = λ more ms new after rest.
         let P : List ℕ → Type 0 = λ l. IsReplaced bytes taken l step (done ++ ms) first old new in
@@ -65,9 +64,9 @@ module _ {V P O E F : Type 0} (bytes : P → List ℕ) (taken : O → Option (Li
         subst P (sym e) (h.some (next ++ more) ms new after (subst Q e rest));
   }
 
-  module _ (text : List ℕ) (done : List (Match V)) (s : ℕ) (f : F) (out : O) (h : LeadsOn text done s f out) where
+  module _ (text : List ℕ) (done : List (Match V)) (s : ℕ) (f : F) (out : O) (h : Leads text done s f out) where
     -- n bytes went out, before any match that is to come
-    pub leads_past : (n : ℕ) (next : O) → s + n ≤ length text → Appends (taken out) (taken next) (take n (drop s text)) → LeadsOn text done (s + n) f next
+    pub leads_past : (n : ℕ) (next : O) → s + n ≤ length text → Appends (taken out) (taken next) (take n (drop s text)) → Leads text done (s + n) f next
     leads_past n next inside went = record {
       all = λ more ms new after rest. h.all more ms new (Follows-earlier s (s + n) ms (omega arith) after) (whole more ms new after rest);
       some = λ more ms new after rest. h.some more ms new (Follows-earlier s (s + n) ms (omega arith) after) (part more ms new after rest);
@@ -101,16 +100,23 @@ module _ {V P O E F : Type 0} (bytes : P → List ℕ) (taken : O → Option (Li
         part more (m ∷ ms) new after (inr (at, before, rest)) =
             inr (at, join more (taken at) (slice_range (text ++ more) (s + n) m.start) (slice_range (text ++ more) s m.start) (joined (text ++ more) s n m.start after.0) before, rest)
 
-    module _ (m : Match V) (starts : s ≤ m.start) (ordered : m.start ≤ m.end) (ends : m.end ≡ length text) where
+    -- what comes of this text alone
+    stops_here : (ms : List (Match V)) → Follows s ms → (new : O) → IsReplacedSoFarFrom bytes taken text step s ms f out new → IsReplacedSoFar bytes taken text step (done ++ ms) first old new
+    stops_here ms after new rest =
+        let P : List ℕ → Type 0 = λ l. IsReplacedSoFar bytes taken l step (done ++ ms) first old new in
+        let Q : List ℕ → Type 0 = λ l. IsReplacedSoFarFrom bytes taken l step s ms f out new in
+        subst P (append-nil text) (h.some [] ms new after (subst Q (sym (append-nil text)) rest))
+
+    module _ (m : Match V) (starts : s ≤ m.start) (ordered : m.start ≤ m.end) (ends : m.end ≤ length text) where
       before_is : (more : List ℕ) → slice_range (text ++ more) s m.start ≡ slice_range text s m.start
       before_is more = within text more s m.start starts (omega (arith, ordered, ends))
 
       matched_is : (more : List ℕ) → slice_range (text ++ more) m.start m.end ≡ slice_range text m.start m.end
-      matched_is more = within text more m.start m.end ordered (omega (arith, ends))
+      matched_is more = within text more m.start m.end ordered ends
 
       -- the match went out
       pub leads_behind : (at next : O) (g : F) → Appends (taken out) (taken at) (slice_range text s m.start) → MayWriteFor bytes step f m (slice_range text m.start m.end) at (Ok tt) next g
-          → LeadsOn text (done ++ m ∷ []) m.end g next
+          → Leads text (done ++ m ∷ []) m.end g next
       leads_behind at next g went (p, shown, left, is, was, then, call) = record {
         all = λ more ms new after rest.
             let P : List (Match V) → Type 0 = λ l. IsReplaced bytes taken (text ++ more) step l first old new in
@@ -122,20 +128,14 @@ module _ {V P O E F : Type 0} (bytes : P → List ℕ) (taken : O → Option (Li
             (inr (at, subst (Appends (taken out) (taken at)) (sym (before_is more)) went, inr (next, g, (p, shown, left, is ∙ sym (matched_is more), was, then, call), rest))));
       }
 
-      ends_at : (new : O) → IsReplacedSoFarFrom bytes taken text step s (m ∷ []) f out new → IsReplacedSoFar bytes taken text step (done ++ m ∷ []) first old new
-      ends_at new rest =
-          let P : List ℕ → Type 0 = λ l. IsReplacedSoFar bytes taken l step (done ++ m ∷ []) first old new in
-          let Q : List ℕ → Type 0 = λ l. IsReplacedSoFarFrom bytes taken l step s (m ∷ []) f out new in
-          subst P (append-nil text) (h.some [] (m ∷ []) new (starts, ordered, tt) (subst Q (sym (append-nil text)) rest))
-
       -- the output took a beginning of the bytes before the match
-      pub stops_before : (new : O) → AppendsBeginning (taken out) (taken new) (slice_range text s m.start) → IsReplacedSoFar bytes taken text step (done ++ m ∷ []) first old new
-      stops_before new went = ends_at new (inl went)
+      pub stops_before : (ms : List (Match V)) → Follows m.end ms → (new : O) → AppendsBeginning (taken out) (taken new) (slice_range text s m.start) → IsReplacedSoFar bytes taken text step (done ++ m ∷ ms) first old new
+      stops_before ms after new went = stops_here (m ∷ ms) (starts, ordered, after) new (inl went)
 
       -- the call for the match returned an error
-      pub stops_at : (at new : O) (e : E) (g : F) → Appends (taken out) (taken at) (slice_range text s m.start) → MayWriteFor bytes step f m (slice_range text m.start m.end) at (Err e) new g
-          → IsReplacedSoFar bytes taken text step (done ++ m ∷ []) first old new
-      stops_at at new e g went call = ends_at new (inr (at, went, inl (e, g, call)))
+      pub stops_at : (ms : List (Match V)) → Follows m.end ms → (at new : O) (e : E) (g : F) → Appends (taken out) (taken at) (slice_range text s m.start) → MayWriteFor bytes step f m (slice_range text m.start m.end) at (Err e) new g
+          → IsReplacedSoFar bytes taken text step (done ++ m ∷ ms) first old new
+      stops_at ms after at new e g went call = stops_here (m ∷ ms) (starts, ordered, after) new (inr (at, went, inl (e, g, call)))
 
     -- the rest went out
     pub all_out : (new : O) → Appends (taken out) (taken new) (drop s text) → IsReplaced bytes taken text step done first old new
@@ -145,10 +145,10 @@ module _ {V P O E F : Type 0} (bytes : P → List ℕ) (taken : O → Option (Li
         let R : List ℕ → Type 0 = λ l. Appends (taken out) (taken new) (drop s l) in
         subst Q (append-nil done) (subst P (append-nil text) (h.all [] [] new tt (subst R (sym (append-nil text)) went)))
 
-    -- or a beginning of it
-    pub stops_behind : (new : O) → AppendsBeginning (taken out) (taken new) (drop s text) → IsReplacedSoFar bytes taken text step done first old new
-    stops_behind new went =
-        let P : List ℕ → Type 0 = λ l. IsReplacedSoFar bytes taken l step (done ++ []) first old new in
-        let Q : List (Match V) → Type 0 = λ l. IsReplacedSoFar bytes taken text step l first old new in
-        let R : List ℕ → Type 0 = λ l. AppendsBeginning (taken out) (taken new) (drop s l) in
-        subst Q (append-nil done) (subst P (append-nil text) (h.some [] [] new tt (subst R (sym (append-nil text)) went)))
+    -- the output took a beginning of the next n bytes, before any match that is to come
+    pub stops_within : (n : ℕ) (ms : List (Match V)) → Follows (s + n) ms → (new : O) → AppendsBeginning (taken out) (taken new) (take n (drop s text)) → IsReplacedSoFar bytes taken text step (done ++ ms) first old new
+    stops_within n [] after new went = stops_here [] tt new (AppendsBeginning-take (taken out) (taken new) n (drop s text) went)
+    stops_within n (m ∷ ms) after new (part, rest, is, went) =
+        let later = slice_range text (s + n) m.start in
+        stops_here (m ∷ ms) (Follows-earlier s (s + n) (m ∷ ms) (omega arith) after) new
+        (inl (part, rest ++ later, joined text s n m.start after.0 ∙ ap (λ l. l ++ later) is ∙ append_assoc part rest later, went))

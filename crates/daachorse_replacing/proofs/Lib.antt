@@ -7,6 +7,8 @@ pub mod FirstMatches
 pub mod Cuts
 pub mod Exact
 pub mod LeadsOn
+pub mod HeldLaws
+pub mod TakesLaws
 pub mod StandardMatches
 pub mod SentLaws
 pub mod GoesLaws

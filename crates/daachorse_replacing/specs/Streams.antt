@@ -6,9 +6,10 @@ use Rattle.std.specs.Iterator.{Yields}
 use Rattle.std.specs.declared.io.Error.{Error}
 use Rattle.daachorse_model.specs.declared.Match.{Match}
 use Rattle.daachorse_model.specs.Dictionary.{Dictionary}
+use Rattle.daachorse_model.specs.Laws.{Follows}
 use Rattle.daachorse_model.specs.Units.{size}
 use Rattle.daachorse_replacing.specs.Replaced.{AppendsBeginning}
-use Rattle.daachorse_replacing.specs.ReplacedWith.{IsReplaced, IsReplacedSoFar, MayWriteFor}
+use Rattle.daachorse_replacing.specs.ReplacedWith.{IsReplaced, IsReplacedFrom, IsReplacedSoFar, IsReplacedSoFarFrom, MayWriteFor}
 
 -- no key takes more bytes
 abbrev pub HasNoLonger : {V : Type 0} → (ℕ → ℕ) → Dictionary V → ℕ → Type 0
@@ -22,11 +23,19 @@ EndsWithin held m = (m.start ≤ m.end) × (m.end ≤ m.start + length held)
 abbrev pub before_match : {V : Type 0} → List ℕ → Match V → ℕ
 before_match held m = length held - (m.end - m.start)
 
+module _ {O : Type 0} (taken : O → Option (List ℕ)) where
+  -- n of the bytes held went out: none, or at least `longest` stay
+  pub record GoesOutSettled (longest n : ℕ) (held : List ℕ) (old : O) (rest : List ℕ) (new : O) : Type 0 where
+    pub many : (n ≡ 0) ⊎ (n + longest ≤ length held)
+    pub inner : n ≤ length held
+    pub went : Appends (taken old) (taken new) (take n held)
+    pub left : rest ≡ drop n held
+
 module _ {V P O E F : Type 0} (bytes : P → List ℕ) (taken : O → Option (List ℕ)) (step : F → Match V → P → MutBor O → Result (Unit {0}) E → MutBor O → F → Type 0) where
-  -- Of the bytes held, what no later match may need went out. With no match, n of them did, if at least `longest` stay. With one, the bytes before it did, its call was made, and none stay.
+  -- Of the bytes held, what no later match may need went out. With no match, n of them did. With one, the bytes before it did, its call was made, and none stay.
   abbrev pub Settles : ℕ → Option (Match V) → List ℕ → F → O → List ℕ → F → O → Type 0
   Settles longest None held f old rest g new =
-      (n : ℕ) × ((n ≡ 0) ⊎ (n + longest ≤ length held)) × (n ≤ length held) × Appends (taken old) (taken new) (take n held) × (rest ≡ drop n held) × (g ≡ f)
+      (n : ℕ) × GoesOutSettled taken longest n held old rest new × (g ≡ f)
   Settles longest (Some m) held f old rest g new =
       (at : O) × Appends (taken old) (taken at) (take (before_match held m) held) × MayWriteFor bytes step f m (drop (before_match held m) held) at (Ok tt) new g × (rest ≡ [])
 
@@ -36,6 +45,18 @@ module _ {V P O E F : Type 0} (bytes : P → List ℕ) (taken : O → Option (Li
   SettlesSoFar (Some m) held f old new =
       AppendsBeginning (taken old) (taken new) (take (before_match held m) held)
       ⊎ ((at : O) × (e : E) × (g : F) × Appends (taken old) (taken at) (take (before_match held m) held) × MayWriteFor bytes step f m (drop (before_match held m) held) at (Err e) new g)
+
+  module _ (first : F) (old : O) where
+    -- From f and this output at s on, whatever comes of more matches and more bytes comes of those before and more from the start.
+    pub record LeadsOn (text : List ℕ) (done : List (Match V)) (s : ℕ) (f : F) (out : O) : Type 0 where
+      pub all : (more : List ℕ) (ms : List (Match V)) (new : O) → Follows s ms → IsReplacedFrom bytes taken (text ++ more) step s ms f out new → IsReplaced bytes taken (text ++ more) step (done ++ ms) first old new
+      pub some : (more : List ℕ) (ms : List (Match V)) (new : O) → Follows s ms → IsReplacedSoFarFrom bytes taken (text ++ more) step s ms f out new → IsReplacedSoFar bytes taken (text ++ more) step (done ++ ms) first old new
+
+    -- Of this text the bytes from a place on are held. Those before went out, with these matches replaced.
+    pub record IsHeld (text : List ℕ) (done : List (Match V)) (place : ℕ) (held : List ℕ) (f : F) (out : O) : Type 0 where
+      pub inside : place ≤ length text
+      pub holds : held ≡ drop place text
+      pub leads : LeadsOn text done place f out
 
   module _ {S U : Type 0} (steps : S → Option U → S → Type 0) (failure : S → Option Error) (unit : U → ℕ) (form : U → List ℕ) (matches : List ℕ → List (Match V)) where
     -- the source came to its end, and the bytes of what it gave went to the output with each match replaced

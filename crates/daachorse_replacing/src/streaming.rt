@@ -1,12 +1,12 @@
 //! The loop that replaces the matches in what a source gives.
 
-ghost use Rattle.std.specs.Prelude.{◌≡◌, ◌≤◌, [], IfSome, OnErr, OnOk, drop, length, take, None};
+ghost use Rattle.std.specs.Prelude.{◌≡◌, ℕ, ◌+◌, ◌≤◌, [], IfOk, IfSome, OnErr, OnOk, drop, length, take, None};
 ghost use Rattle.std.specs.Io.KnownBytes.{Appends};
 ghost use Rattle.daachorse_model.specs.Folding.{as_read};
 ghost use Rattle.daachorse_model.specs.Matches.{standard};
 ghost use Rattle.daachorse_search.specs.Views.{IsStandard};
 ghost use Rattle.daachorse_replacing.specs.Replaced.{AppendsBeginning};
-ghost use Rattle.daachorse_replacing.specs.Streams.{EndsWithin, HasNoLonger, IsStreamed, IsStreamedSoFar, Settles, SettlesSoFar};
+ghost use Rattle.daachorse_replacing.specs.Streams.{EndsWithin, GoesOutSettled, HasNoLonger, IsStreamed, IsStreamedSoFar, Settles, SettlesSoFar};
 
 use crate::appending::write_whole;
 use daachorse_core::Match;
@@ -25,6 +25,9 @@ const BLOCK: usize = 65536;
 
 // The most bytes of a unit.
 const WIDEST: usize = 4;
+
+/// The most bytes that are held beside those that a later match may need: a block and a unit.
+pub const ROOM: usize = BLOCK + WIDEST;
 
 /// Puts out what the source gives, in place of each match what `write` appends for it and its
 /// bytes. Holds at most `longest` bytes, a block of 64 KiB and a unit, for which it allocates once.
@@ -63,7 +66,7 @@ where
 {
     let walk = FindWalk::new(automaton);
     let mut stepper = FindStepper::new(walk, &[], folds);
-    let mut held = Vec::with_capacity(alloc, longest.saturating_add(BLOCK + WIDEST))?;
+    let mut held = Vec::with_capacity(alloc, longest.saturating_add(ROOM))?;
     'units: loop {
         settle(stepper.matches(), longest, &mut held, out, &mut write)?;
         let Some(unit) = source.next() else {
@@ -92,16 +95,31 @@ fn settle<V: Copy, O: Write, F: FnMut(Match<V>, &[u8], &mut O) -> io::Result<()>
     ensures beginning { OnErr result (SettlesSoFar (λ s. s.now) O.contents F.step found held.old.items write.old out.old out.new) }
 {
     let Some(found) = found else {
-        let settled = held.len().saturating_sub(longest);
-        if settled > BLOCK {
-            return put_out(settled, held, out);
-        }
+        put_out_settled(longest, held, out)?;
         return Ok(());
     };
     put_out(held.len() - (found.end - found.start), held, out)?;
     write(found, held, out)?;
     held.clear();
     Ok(())
+}
+
+/// Puts out all bytes held but the last `longest`, if they are more than a block, and returns how
+/// many went out. Those are held no more.
+pub fn put_out_settled<O: Write, A: Allocator>(
+    longest: usize,
+    held: &mut Vec<u8, A>,
+    out: &mut O,
+) -> io::Result<usize>
+    ensures whole { IfOk result (λ n. GoesOutSettled O.contents longest n held.old.items out.old held.new.items out.new) }
+    ensures beginning { OnErr result ((n : ℕ) × (n + longest ≤ length held.old.items) × AppendsBeginning (O.contents out.old) (O.contents out.new) (take n held.old.items)) }
+{
+    let settled = held.len().saturating_sub(longest);
+    if settled <= BLOCK {
+        return Ok(0);
+    }
+    put_out(settled, held, out)?;
+    Ok(settled)
 }
 
 /// Puts out the first `count` of the bytes held, which then are held no more.
@@ -116,9 +134,17 @@ fn put_out<O: Write, A: Allocator>(
     ensures beginning { OnErr result (AppendsBeginning (O.contents out.old) (O.contents out.new) (take count held.old.items)) }
 {
     write_whole(out, &held[..count])?;
+    drop_first(count, held);
+    Ok(())
+}
+
+/// Drops the first `count` of the bytes held.
+pub fn drop_first<A: Allocator>(count: usize, held: &mut Vec<u8, A>)
+    requires { count ≤ length held.old.items }
+    ensures { held.new.items ≡ drop count held.old.items }
+{
     held.copy_within(count.., 0);
     held.truncate(held.len() - count);
-    Ok(())
 }
 
 /// Puts out the bytes held, if the source came to its end.

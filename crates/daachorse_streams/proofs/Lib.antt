@@ -5,3 +5,5 @@ pub mod GivingLaws
 pub mod StreamLaws
 pub mod ReadingLaws
 pub mod MarkLaws
+pub mod LateMatches
+pub mod ReplacingLaws

@@ -4,6 +4,7 @@
 pub mod leftmost_from_reader;
 pub mod leftmost_stream;
 pub mod marks;
+pub mod replacing;
 mod scan;
 mod search;
 pub mod stream_marks;

@@ -1,28 +1,30 @@
 -- The bytes before the match went out, and then the call for it is made with those that are left.
 use Rattle.std.proofs.Common.{◌≡◌, ℕ, ◌-◌, inr, take, drop, refl, ap, ◌∙◌, subst, arith}
-use Rattle.std.proofs.lemmas.Result.{err_from_is_err_and, on_err_weaker}
+use Rattle.std.proofs.lemmas.Result.{err_from_is_err_and}
 use Rattle.std.specs.Io.KnownBytes.{Appends}
 use Rattle.daachorse_replacing.specs.Streams.{before_match}
 use Rattle.daachorse_replacing.proofs.LeadsOn.{AppendsBeginning-take}
 use Rattle.daachorse_replacing.proofs.streaming.settle.Goals as goal
 
-pub returns-then-settled-gt-BLOCK-clause-beginning : goal.returns-then-settled-gt-BLOCK-clause-beginning
-returns-then-settled-gt-BLOCK-clause-beginning g c =
-    rw c.in_default.is (on_err_weaker c.put_out.result (λ piece. AppendsBeginning-take _ _ _ _ piece) c.put_out.ensures.beginning)
+pub returns-in_err-put_out_settled-clause-beginning : goal.returns-in_err-put_out_settled-clause-beginning
+returns-in_err-put_out_settled-clause-beginning g c =
+    let p = err_from_is_err_and c.from_residual.result c.from_residual.ensures.1 in
+    let went = c.in_err-put_out_settled.ensures.beginning in
+    rw p.1 (rw c.in_default.is (AppendsBeginning-take _ _ _ _ went.2))
 
 pub returns-in_err-write-clause-beginning : goal.returns-in_err-write-clause-beginning
 returns-in_err-write-clause-beginning g c =
     let p = err_from_is_err_and c.from_residual-in_err-write.result c.from_residual-in_err-write.ensures.1 in
     let held = c.args.held.now.items in let m = c.in-Some.found in
-    let count : c.len-2.result - (m.end - m.start) ≡ before_match held m = omega (arith, c.len-2.ensures, c.args.held.now.ok.0) in
-    let Went : ℕ → Type 0 = λ n. Appends (g.O.Write.contents c.args.out.now) (g.O.Write.contents c.put_out-2.new.out) (take n held) in
+    let count : c.len.result - (m.end - m.start) ≡ before_match held m = omega (arith, c.len.ensures, c.args.held.now.ok.0) in
+    let Went : ℕ → Type 0 = λ n. Appends (g.O.Write.contents c.args.out.now) (g.O.Write.contents c.put_out.new.out) (take n held) in
     let matched : c.deref.result.now ≡ drop (before_match held m) held = c.deref.ensures.value ∙ c.in_ok-put_out.ensures.held ∙ ap (λ n. drop n held) count in
     rw p.1 (rw c.in-Some.is (inr (_, _, _, subst Went count c.in_ok-put_out.ensures.whole, (_, _, _, matched, refl, refl, c.in_err-write.ensures))))
 
 pub returns-clause-whole : goal.returns-clause-whole
 returns-clause-whole g c =
     let held = c.args.held.now.items in let m = c.in-Some.found in
-    let count : c.len-2.result - (m.end - m.start) ≡ before_match held m = omega (arith, c.len-2.ensures, c.args.held.now.ok.0) in
-    let Went : ℕ → Type 0 = λ n. Appends (g.O.Write.contents c.args.out.now) (g.O.Write.contents c.put_out-2.new.out) (take n held) in
+    let count : c.len.result - (m.end - m.start) ≡ before_match held m = omega (arith, c.len.ensures, c.args.held.now.ok.0) in
+    let Went : ℕ → Type 0 = λ n. Appends (g.O.Write.contents c.args.out.now) (g.O.Write.contents c.put_out.new.out) (take n held) in
     let matched : c.deref.result.now ≡ drop (before_match held m) held = c.deref.ensures.value ∙ c.in_ok-put_out.ensures.held ∙ ap (λ n. drop n held) count in
     rw c.in-Some.is (_, subst Went count c.in_ok-put_out.ensures.whole, (_, _, _, matched, refl, refl, c.in_ok-write.ensures), c.clear.ensures.items)

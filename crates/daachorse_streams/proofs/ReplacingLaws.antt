@@ -1,0 +1,220 @@
+-- The loop over a source: what it took so far is what its stream read, and went out but for what is held, where no match that is to come starts before it.
+use Rattle.std.proofs.Common.{◌≡◌, ℕ, ◌+◌, ◌-◌, ◌<◌, ◌≤◌, ◌^◌, inl, inr, Bool, false, List, [], ◌∷◌, ◌++◌, length, map, take, Option, Some, None, Result, refl, sym, ap, ◌∙◌, subst, append_assoc, append-nil, length-append, arith}
+use Rattle.std.proofs.lemmas.List.{take_all}
+use Rattle.std.proofs.lemmas.List.Elements.{All-head, All-tail}
+use Rattle.std.specs.Prelude.{All, flat_map}
+use Rattle.std.specs.Borrow.{MutBor}
+use Rattle.std.specs.Io.KnownBytes.{Appends}
+use Rattle.std.specs.Iterator.{Count, MakesProgress}
+use Rattle.std.specs.declared.io.Error.{Error}
+use Rattle.daachorse_model.specs.declared.Match.{Match}
+use Rattle.daachorse_model.specs.Certain.{AreCertain, BeginEach}
+use Rattle.daachorse_model.specs.Dictionary.{Dictionary}
+use Rattle.daachorse_model.specs.Folding.{as_read, folded_unit}
+use Rattle.daachorse_model.specs.Laws.{Follows, IsOccurrence}
+use Rattle.daachorse_model.specs.Leftmost.{leftmost}
+use Rattle.daachorse_model.specs.Matches.{last_end}
+use Rattle.daachorse_model.specs.Units.{size}
+use Rattle.daachorse_model.proofs.Find.{leftmost_occur}
+use Rattle.daachorse_model.proofs.Overlap.{Follows-earlier, leftmost_apart}
+use Rattle.daachorse_model.proofs.Suffixes.{size-append}
+use Rattle.daachorse_haystack.specs.Sources.{IsReady}
+use Rattle.daachorse_replacing.specs.Replaced.{AppendsBeginning}
+use Rattle.daachorse_replacing.specs.ReplacedWith.{IsReplaced, IsReplacedSoFar}
+use Rattle.daachorse_replacing.specs.Streams.{GoesOutSettled, HasNoLonger, IsHeld, IsStreamed, IsStreamedSoFar}
+use Rattle.daachorse_replacing.proofs.HeldLaws.{held-count, held-first, held-more, held-past, held-whole, unheld-within}
+use Rattle.daachorse_replacing.proofs.LeadsOn.{AppendsBeginning-nothing, so_far_nothing}
+use Rattle.daachorse_replacing.proofs.TakesLaws.{Takes, form_more, sized_unit, takes-first, takes-fits, takes-more}
+use Rattle.daachorse_streams.specs.Replacing.{GoesOut, GoesOutSoFar}
+use Rattle.daachorse_streams.proofs.LateMatches.{late_matches}
+
+-- matches behind others follow the last of them
+Follows-behind : {V : Type 0} (s : ℕ) (before ms : List (Match V)) → Follows s (before ++ ms) → Follows (last_end s before) ms
+Follows-behind s [] ms follows = follows
+Follows-behind s (m ∷ before) ms follows = Follows-behind m.end before ms follows.2
+
+one_of : {A : Type 0} (Q : A → Type 0) (before : List A) (x : A) (after : List A) → All Q (before ++ x ∷ after) → Q x
+one_of Q [] x after all = All-head Q x after all
+one_of Q (y ∷ before) x after all = one_of Q before x after (All-tail Q y (before ++ x ∷ after) all)
+
+-- the next match starts where the bytes held do, or later, and ends within them
+pub record IsNext {V : Type 0} (place : ℕ) (held : List ℕ) (m : Match V) (rest : List (Match V)) : Type 0 where
+  pub after : Follows place (m ∷ rest)
+  pub inner : m.end ≤ place + length held
+
+module _ {V : Type 0} (width : ℕ → ℕ) (K : Dictionary V) where
+  pub next-match : (read held : List ℕ) (place : ℕ) (given rest : List (Match V)) (m : Match V) → place + length held ≡ size width read → leftmost width K read ≡ given ++ m ∷ rest → Follows place (m ∷ rest)
+      → IsNext place held m rest
+  next-match read held place given rest m count is after =
+      let o = one_of (IsOccurrence width K read) given m rest (subst (All (IsOccurrence width K read)) is (leftmost_occur width K read)) in
+      let whole : size width read ≡ size width o.before + (size width o.key + size width o.after) =
+      ap (size width) o.splits ∙ size-append width o.before (o.key ++ o.after) ∙ ap (λ n. size width o.before + n) (size-append width o.key o.after) in
+      record { after = after; inner = omega (arith, count, whole, o.ends) }
+
+module _ {V P O F S U : Type 0} (bytes : P → List ℕ) (taken : O → Option (List ℕ)) (step : F → Match V → P → MutBor O → Result (Unit {0}) Error → MutBor O → F → Type 0) (first : F) (old : O)
+    (can : S → Type 0) (steps : S → Option U → S → Type 0) (left : S → Count) (failure : S → Option Error) (unit : U → ℕ) (form : U → List ℕ) (width : ℕ → ℕ)
+    (K : Dictionary V) (folds : Bool) (source : S) where
+  -- at the head of the loop
+  pub record Goes (read : List ℕ) (given : List (Match V)) (s : S) (place : ℕ) (held : List ℕ) (f : F) (out : O) : Type 0 where
+    pub units : List U
+    pub takes : Takes can steps left unit width folds source units read s
+    pub sized : length (flat_map form units) ≡ size width read
+    pub is : IsHeld bytes taken step first old (flat_map form units) given place held f out
+    pub behind : (d : List ℕ) (rest : List (Match V)) → leftmost width K (read ++ d) ≡ given ++ rest → Follows place rest
+
+  abbrev pub Whole : O → Type 0
+  Whole = IsStreamed bytes taken step steps failure unit form (λ units. leftmost width K (as_read folds units)) source first old
+
+  abbrev pub SoFar : O → Type 0
+  SoFar = IsStreamedSoFar bytes taken step steps failure unit form (λ units. leftmost width K (as_read folds units)) source first old
+
+  -- nothing was taken yet
+  pub streams-nothing : SoFar old
+  streams-nothing = record { units = []; last = source; took = refl; replaced = so_far_nothing bytes taken step first old [] 0 (leftmost width K (as_read folds [])) }
+
+  pub goes-first : IsReady can steps left unit width source 0 → (read : List ℕ) (given : List (Match V)) (held : List ℕ) → read ≡ [] → given ≡ [] → held ≡ [] → Goes read given source 0 held first old
+  goes-first ready read given held none no_match empty =
+      let R : List ℕ → Type 0 = λ l. Goes l given source 0 held first old in
+      let G : List (Match V) → Type 0 = λ l. Goes [] l source 0 held first old in
+      let H : List ℕ → Type 0 = λ l. Goes [] [] source 0 l first old in
+      subst R (sym none) (subst G (sym no_match) (subst H (sym empty) (record {
+        units = [];
+        takes = takes-first can steps left unit width folds source ready [] refl;
+        sized = refl;
+        is = held-first bytes taken step first old;
+        behind = λ d rest is. subst (Follows 0) is (leftmost_apart width K d);
+      })))
+
+module _ {V P O F S U : Type 0} {bytes : P → List ℕ} {taken : O → Option (List ℕ)} {step : F → Match V → P → MutBor O → Result (Unit {0}) Error → MutBor O → F → Type 0} {first : F} {old : O}
+    {can : S → Type 0} {steps : S → Option U → S → Type 0} {left : S → Count} {failure : S → Option Error} {unit : U → ℕ} {form : U → List ℕ} {width : ℕ → ℕ}
+    {K : Dictionary V} {folds : Bool} {source : S} {read : List ℕ} {given : List (Match V)} {s : S} {place : ℕ} {held : List ℕ} {f : F} {out : O}
+    (h : Goes bytes taken step first old can steps left failure unit form width K folds source read given s place held f out) where
+  abbrev StopsAt : O → Type 0
+  StopsAt = SoFar bytes taken step first old can steps left failure unit form width K folds source
+
+  pub goes-count : place + length held ≡ size width read
+  goes-count = held-count bytes taken step first old h.is ∙ h.sized
+
+  pub goes-behind : (rest : List (Match V)) → leftmost width K read ≡ given ++ rest → Follows place rest
+  goes-behind rest is = h.behind [] rest (ap (leftmost width K) (append-nil read) ∙ is)
+
+  stopped : (new : O) → IsReplacedSoFar bytes taken (flat_map form h.units) step (leftmost width K read) first old new → StopsAt new
+  stopped new replaced = record {
+    units = h.units;
+    last = s;
+    took = h.takes.took;
+    replaced = let R : List ℕ → Type 0 = λ l. IsReplacedSoFar bytes taken (flat_map form h.units) step (leftmost width K l) first old new in subst R h.takes.is replaced;
+  }
+
+  -- the certain matches went out
+  pub goes-out : {more : List (Match V)} {next : ℕ} {rest : List ℕ} {g : F} {new : O} → GoesOut bytes taken step given more place held f out next rest g new
+      → Goes bytes taken step first old can steps left failure unit form width K folds source read more s next rest g new
+  goes-out {more} {next} {rest} {g} {new} went = record {
+    units = h.units;
+    takes = h.takes;
+    sized = h.sized;
+    is = went.holds first old (flat_map form h.units) h.is;
+    behind = λ d later is.
+        let all : leftmost width K (read ++ d) ≡ given ++ (went.more ++ later) = is ∙ ap (λ l. l ++ later) went.gives ∙ append_assoc given went.more later in
+        subst (λ n. Follows n later) (sym went.ends) (Follows-behind place went.more later (h.behind d (went.more ++ later) all));
+  }
+
+  -- or did so up to a refusal
+  pub stops-out : (all : List (Match V)) (new : O) → all ≡ leftmost width K read → GoesOutSoFar bytes taken step all given place held f out new → StopsAt new
+  stops-out all new is went =
+      let P : List (Match V) → Type 0 = λ l. IsReplacedSoFar bytes taken (flat_map form h.units) step l first old new in
+      stopped new (subst P is (went first old (flat_map form h.units) h.is))
+
+  -- the output took a beginning of the next n bytes, before any match that is to come
+  stops-before : (n : ℕ) (new : O) (rest : List (Match V)) → leftmost width K read ≡ given ++ rest → Follows (place + n) rest → AppendsBeginning (taken out) (taken new) (take n held) → StopsAt new
+  stops-before n new rest is after part =
+      let P : List (Match V) → Type 0 = λ l. IsReplacedSoFar bytes taken (flat_map form h.units) step l first old new in
+      stopped new (subst P (sym is) (unheld-within bytes taken step first old h.is n rest after new part))
+
+  -- the matches that are left, where some are certain
+  is_left : BeginEach width K read given → (rest : List (Match V)) × (leftmost width K read ≡ given ++ rest)
+  is_left begins = let all = begins [] in (all.0, ap (leftmost width K) (sym (append-nil read)) ∙ all.1)
+
+  -- nothing more went out
+  pub stops-here : BeginEach width K read given → StopsAt out
+  stops-here begins =
+      let rest = is_left begins in
+      stops-before 0 out rest.0 rest.1 (subst (λ n. Follows n rest.0) (let same : place ≡ place + 0 = omega arith in same) (goes-behind rest.0 rest.1)) (AppendsBeginning-nothing (taken out) (take 0 held))
+
+  module _ (wide : (u : ℕ) → 1 ≤ width u) {longest : ℕ} (bound : HasNoLonger width K longest) (certain : AreCertain width K read given) where
+    -- no match that is to come starts in the bytes before the last `longest`
+    late : (n : ℕ) → n + longest ≤ length held → (d : List ℕ) (rest : List (Match V)) → leftmost width K (read ++ d) ≡ given ++ rest → Follows (place + n) rest
+    late n many d rest is = Follows-earlier (place + n) (size width read - longest) rest (omega (arith, many, goes-count)) (late_matches width K wide longest bound read given certain d rest is)
+
+    -- they went out
+    pub goes-settled : {n : ℕ} {rest : List ℕ} {new : O} → GoesOutSettled taken longest n held out rest new
+        → Goes bytes taken step first old can steps left failure unit form width K folds source read given s (place + n) rest f new
+    goes-settled {n} {rest} {new} went = record {
+      units = h.units;
+      takes = h.takes;
+      sized = h.sized;
+      is =
+          let H : List ℕ → Type 0 = λ l. IsHeld bytes taken step first old (flat_map form h.units) given (place + n) l f new in
+          subst H (sym went.left) (held-past bytes taken step first old h.is n new went.inner went.went);
+      behind = λ d later is. elim went.many [
+        | inl none ↦ subst (λ k. Follows k later) (let same : place ≡ place + n = omega (arith, none) in same) (h.behind d later is)
+        | inr many ↦ late n many d later is
+      ];
+    }
+
+    -- or a beginning of them
+    pub stops-settled : (new : O) → (n : ℕ) × (n + longest ≤ length held) × AppendsBeginning (taken out) (taken new) (take n held) → StopsAt new
+    stops-settled new (n, many, part) =
+        let rest = is_left certain.0 in
+        stops-before n new rest.0 rest.1 (late n many [] rest.0 (ap (leftmost width K) (append-nil read) ∙ rest.1)) part
+
+  module _ (as_wide : (u : ℕ) → width (folded_unit u) ≡ width u) where
+    -- the place behind the next unit fits
+    pub goes-fits : (u : U) (t : S) → steps s (Some u) t → MakesProgress can left s (Some u) t → size width read + width (unit u) < 2 ^ 64
+    goes-fits u t took goes = takes-fits can steps left unit width folds source as_wide h.takes u t took goes
+
+    -- one unit more
+    pub goes-more : (u : U) (t : S) (after more : List ℕ) → steps s (Some u) t → MakesProgress can left s (Some u) t → length (form u) ≡ width (unit u)
+        → after ≡ read ++ as_read folds (unit u ∷ []) → more ≡ held ++ form u → Goes bytes taken step first old can steps left failure unit form width K folds source after given t place more f out
+    goes-more u t after more took goes long reads holds =
+        let one = as_read folds (unit u ∷ []) in
+        record {
+          units = h.units ++ u ∷ [];
+          takes = takes-more can steps left unit width folds source as_wide h.takes u t after took goes reads;
+          sized =
+              omega (
+                arith,
+                h.sized,
+                ap length (form_more form h.units u),
+                length-append (flat_map form h.units) (form u),
+                sized_unit unit form width as_wide folds u long,
+                ap (size width) reads,
+                size-append width read one,
+              );
+          is =
+              let T : List ℕ → Type 0 = λ l. IsHeld bytes taken step first old l given place more f out in
+              let H : List ℕ → Type 0 = λ l. IsHeld bytes taken step first old (flat_map form h.units ++ form u) given place l f out in
+              subst T (sym (form_more form h.units u)) (subst H (sym holds) (held-more bytes taken step first old h.is (form u)));
+          behind = λ d rest is. h.behind (one ++ d) rest (ap (leftmost width K) (sym (append_assoc read one d) ∙ ap (λ l. l ++ d) (sym reads)) ∙ is);
+        }
+
+  module _ (all : given ≡ leftmost width K read) where
+    -- the source came to its end, and the rest went out
+    pub goes-to-end : (ended : S) (last : O) → steps s None ended → failure ended ≡ None → Appends (taken out) (taken last) held
+        → Whole bytes taken step first old can steps left failure unit form width K folds source last
+    goes-to-end ended last ends whole went = record {
+      units = h.units;
+      last = s;
+      ended = ended;
+      took = h.takes.took;
+      ends = ends;
+      whole = whole;
+      replaced =
+          let R : List (Match V) → Type 0 = λ ms. IsReplaced bytes taken (flat_map form h.units) step ms first old last in
+          subst (λ l. R (leftmost width K l)) h.takes.is (subst R all (held-whole bytes taken step first old h.is last went));
+    }
+
+    -- or a beginning of it
+    pub stops-at-end : (last : O) → AppendsBeginning (taken out) (taken last) held → StopsAt last
+    stops-at-end last part =
+        stops-before (length held) last [] (sym all ∙ sym (append-nil given)) tt (subst (AppendsBeginning (taken out) (taken last)) (sym (take_all (length held) held (omega arith))) part)

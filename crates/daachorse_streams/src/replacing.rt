@@ -1,0 +1,126 @@
+//! The loop that replaces the leftmost matches in what a source gives.
+
+ghost use Rattle.std.specs.Prelude.{◌≡◌, ◌+◌, ◌++◌, List, [], OnErr, OnOk, length};
+ghost use Rattle.daachorse_model.specs.Folding.{as_read};
+ghost use Rattle.daachorse_model.specs.Laws.{Follows};
+ghost use Rattle.daachorse_model.specs.Leftmost.{leftmost};
+ghost use Rattle.daachorse_model.specs.Units.{size};
+ghost use Rattle.daachorse_search.specs.Views.{IsLeftmostView};
+ghost use Rattle.daachorse_replacing.specs.Streams.{HasNoLonger, IsStreamed, IsStreamedSoFar};
+ghost use Rattle.daachorse_streams.specs.Children.{HasMarks};
+ghost use Rattle.daachorse_streams.specs.Replacing.{GoesOut, GoesOutSoFar};
+ghost use Rattle.daachorse_streams.specs.Streamed.{IsSameStream, IsSettled};
+
+use crate::leftmost_stream::LeftmostStream;
+use daachorse_core::Match;
+use daachorse_core::edge_label::EdgeLabel;
+use daachorse_replacing::appending::write_whole;
+use daachorse_replacing::streaming::{ROOM, drop_first, put_out_settled};
+use daachorse_search::automaton::Automaton;
+use daachorse_search::reader::ReadSource;
+use daachorse_search::step_unit::StepUnit;
+use std::alloc::Allocator;
+use std::io::{self, Write};
+
+/// The bytes that were taken and have not gone out.
+#[derive(Drop)]
+struct Held<B: Allocator> {
+    /// Where they begin, in bytes from the beginning of what the source gave.
+    place: usize,
+    bytes: Vec<u8, B>,
+}
+
+/// Puts out what the source gives, in place of each leftmost match what `write` appends for it and
+/// its bytes, as soon as it is certain. Holds at most twice `longest` bytes, a block of 64 KiB and
+/// a unit.
+///
+/// Stops at the first error, of an allocation, the source, `out` or `write`.
+///
+/// # Conditions
+/// The automaton is for leftmost searches, `marks` says of each state whether its text goes on to
+/// a longer one, and the source may be read. No pattern takes more bytes than `longest`. The
+/// closure may be called at any match, any bytes and any output.
+pub fn replace_leftmost_from<
+    'a,
+    V: Copy,
+    A: Automaton<V>,
+    S: ReadSource<A::Unit>,
+    O: Write,
+    F: FnMut(Match<V>, &[u8], &mut O) -> io::Result<()> + Drop,
+    B: Allocator + Copy,
+>(
+    automaton: A,
+    marks: &'a [bool],
+    folds: bool,
+    mut source: S,
+    longest: usize,
+    alloc: B,
+    out: &mut O,
+    mut write: F,
+) -> io::Result<()>
+where
+    A::Unit: StepUnit,
+    requires kind { IsLeftmostView (A.sees automaton) }
+    requires marks { HasMarks (A.sees automaton) marks.now }
+    requires may { S.Source.may_read source [] }
+    requires longest { HasNoLonger A.Unit.width (A.sees automaton).content longest }
+    requires callable { F.IsAlwaysCallable write }
+    ensures whole { OnOk result (IsStreamed (λ s. s.now) O.contents F.step S.next_gives S.failure A.Unit.unit A.Unit.form
+        (λ units. leftmost A.Unit.width (A.sees automaton).content (as_read folds units)) source write out.old out.new) }
+    ensures beginning { OnErr result (IsStreamedSoFar (λ s. s.now) O.contents F.step S.next_gives S.failure A.Unit.unit A.Unit.form
+        (λ units. leftmost A.Unit.width (A.sees automaton).content (as_read folds units)) source write out.old out.new) }
+{
+    let mut stream = LeftmostStream::new(alloc, automaton, marks, longest, folds)?;
+    let bytes = Vec::with_capacity(alloc, longest.saturating_add(ROOM))?;
+    let mut held = Held { place: 0, bytes };
+    'units: loop {
+        replace_certain(&mut stream, &mut held, out, &mut write)?;
+        held.place += put_out_settled(longest, &mut held.bytes, out)?;
+        let Some(unit) = source.next() else {
+            if let Some(error) = source.into_failure() {
+                return Err(error);
+            }
+            stream.end();
+            replace_certain(&mut stream, &mut held, out, &mut write)?;
+            return write_whole(out, &held.bytes);
+        };
+        // The bytes of a unit are as many as it is wide.
+        unit.in_range();
+        unit.append_to(&mut held.bytes)?;
+        stream.consume(unit);
+    }
+}
+
+/// Puts out the bytes up to each certain match, and then what `write` appends for it.
+fn replace_certain<
+    V: Copy,
+    A: Automaton<V>,
+    O: Write,
+    F: FnMut(Match<V>, &[u8], &mut O) -> io::Result<()>,
+    ALLOC: Allocator,
+    B: Allocator,
+>(
+    stream: &mut LeftmostStream<'_, V, A, ALLOC>,
+    held: &mut Held<B>,
+    out: &mut O,
+    write: &mut F,
+) -> io::Result<()>
+    requires read { held.old.place + length held.old.bytes.items ≡ size A.Unit.width stream.old.read }
+    requires behind { (rest : List (Match V)) → leftmost A.Unit.width (A.sees stream.old.automaton).content stream.old.read ≡ stream.old.given ++ rest → Follows held.old.place rest }
+    requires callable { F.IsAlwaysCallable write.old }
+    ensures same { IsSameStream stream.old stream.new }
+    ensures settled { OnOk result (IsSettled A.Unit.width (A.sees stream.new.automaton).content stream.new stream.new) }
+    ensures callable { OnOk result (F.IsAlwaysCallable write.new) }
+    ensures whole { OnOk result (GoesOut (λ s. s.now) O.contents F.step stream.old.given stream.new.given held.old.place held.old.bytes.items write.old out.old held.new.place held.new.bytes.items write.new out.new) }
+    ensures beginning { OnErr result (GoesOutSoFar (λ s. s.now) O.contents F.step (leftmost A.Unit.width (A.sees stream.old.automaton).content stream.old.read) stream.old.given held.old.place held.old.bytes.items write.old out.old out.new) }
+{
+    'matches: while let Some(found) = stream.next_certain() {
+        let start = found.start - held.place;
+        let end = found.end - held.place;
+        write_whole(out, &held.bytes[..start])?;
+        write(found, &held.bytes[start..end], out)?;
+        drop_first(end, &mut held.bytes);
+        held.place = found.end;
+    }
+    Ok(())
+}

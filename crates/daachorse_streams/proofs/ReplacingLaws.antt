@@ -27,29 +27,7 @@ use Rattle.daachorse_replacing.proofs.LeadsOn.{AppendsBeginning-nothing, so_far_
 use Rattle.daachorse_replacing.proofs.TakesLaws.{Takes, form_more, sized_unit, takes-first, takes-fits, takes-more}
 use Rattle.daachorse_streams.specs.Replacing.{GoesOut, GoesOutSoFar}
 use Rattle.daachorse_streams.proofs.LateMatches.{late_matches}
-
--- matches behind others follow the last of them
-Follows-behind : {V : Type 0} (s : ℕ) (before ms : List (Match V)) → Follows s (before ++ ms) → Follows (last_end s before) ms
-Follows-behind s [] ms follows = follows
-Follows-behind s (m ∷ before) ms follows = Follows-behind m.end before ms follows.2
-
-one_of : {A : Type 0} (Q : A → Type 0) (before : List A) (x : A) (after : List A) → All Q (before ++ x ∷ after) → Q x
-one_of Q [] x after all = All-head Q x after all
-one_of Q (y ∷ before) x after all = one_of Q before x after (All-tail Q y (before ++ x ∷ after) all)
-
--- the next match starts where the bytes held do, or later, and ends within them
-pub record IsNext {V : Type 0} (place : ℕ) (held : List ℕ) (m : Match V) (rest : List (Match V)) : Type 0 where
-  pub after : Follows place (m ∷ rest)
-  pub inner : m.end ≤ place + length held
-
-module _ {V : Type 0} (width : ℕ → ℕ) (K : Dictionary V) where
-  pub next-match : (read held : List ℕ) (place : ℕ) (given rest : List (Match V)) (m : Match V) → place + length held ≡ size width read → leftmost width K read ≡ given ++ m ∷ rest → Follows place (m ∷ rest)
-      → IsNext place held m rest
-  next-match read held place given rest m count is after =
-      let o = one_of (IsOccurrence width K read) given m rest (subst (All (IsOccurrence width K read)) is (leftmost_occur width K read)) in
-      let whole : size width read ≡ size width o.before + (size width o.key + size width o.after) =
-      ap (size width) o.splits ∙ size-append width o.before (o.key ++ o.after) ∙ ap (λ n. size width o.before + n) (size-append width o.key o.after) in
-      record { after = after; inner = omega (arith, count, whole, o.ends) }
+use Rattle.daachorse_streams.proofs.OutLaws.{Follows-behind}
 
 module _ {V P O F S U : Type 0} (bytes : P → List ℕ) (taken : O → Option (List ℕ)) (step : F → Match V → P → MutBor O → Result (Unit {0}) Error → MutBor O → F → Type 0) (first : F) (old : O)
     (can : S → Type 0) (steps : S → Option U → S → Type 0) (left : S → Count) (failure : S → Option Error) (unit : U → ℕ) (form : U → List ℕ) (width : ℕ → ℕ)

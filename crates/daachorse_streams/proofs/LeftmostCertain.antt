@@ -178,7 +178,7 @@ module _ {V : Type 0} (K : Dictionary V) where
   pub not_without_best : (w b l c : List ℕ) → Occurs K w b l c → ((a k : List ℕ) → IsBest K w a k → ⊥) → ⊥
   not_without_best w b l c o none = some_best w none (suc (rank w b l)) b l c o (omega arith)
 
-length_size : (width : ℕ → ℕ) → ((u : ℕ) → 1 ≤ width u) → (w : List ℕ) → length w ≤ size width w
+pub length_size : (width : ℕ → ℕ) → ((u : ℕ) → 1 ≤ width u) → (w : List ℕ) → length w ≤ size width w
 length_size width wide [] = omega arith
 length_size width wide (u ∷ w) = omega (arith, wide u, length_size width wide w)
 

@@ -20,7 +20,7 @@ use Rattle.daachorse_replacing.proofs.StandardMatches.{last_end-push}
 use Rattle.daachorse_streams.specs.Replacing.{GoesOut, GoesOutSoFar}
 
 -- matches behind others follow the last of them
-Follows-behind : {V : Type 0} (s : ℕ) (before ms : List (Match V)) → Follows s (before ++ ms) → Follows (last_end s before) ms
+pub Follows-behind : {V : Type 0} (s : ℕ) (before ms : List (Match V)) → Follows s (before ++ ms) → Follows (last_end s before) ms
 Follows-behind s [] ms follows = follows
 Follows-behind s (m ∷ before) ms follows = Follows-behind m.end before ms follows.2
 

@@ -1,8 +1,7 @@
 -- The loop over a source: what it took so far is what its stream read, and went out but for what is held, where no match that is to come starts before it.
-use Rattle.std.proofs.Common.{◌≡◌, ℕ, ◌+◌, ◌-◌, ◌<◌, ◌≤◌, ◌^◌, inl, inr, Bool, false, List, [], ◌∷◌, ◌++◌, length, map, take, Option, Some, None, Result, refl, sym, ap, ◌∙◌, subst, append_assoc, append-nil, length-append, arith}
+use Rattle.std.proofs.Common.{◌≡◌, ℕ, ◌+◌, ◌-◌, ◌<◌, ◌≤◌, ◌^◌, inl, inr, Bool, List, [], ◌∷◌, ◌++◌, length, map, take, Option, Some, None, Result, refl, sym, ap, ◌∙◌, subst, append_assoc, append-nil, length-append, arith}
 use Rattle.std.proofs.lemmas.List.{take_all}
-use Rattle.std.proofs.lemmas.List.Elements.{All-head, All-tail}
-use Rattle.std.specs.Prelude.{All, flat_map}
+use Rattle.std.specs.Prelude.{flat_map}
 use Rattle.std.specs.Borrow.{MutBor}
 use Rattle.std.specs.Io.KnownBytes.{Appends}
 use Rattle.std.specs.Iterator.{Count, MakesProgress}
@@ -11,12 +10,11 @@ use Rattle.daachorse_model.specs.declared.Match.{Match}
 use Rattle.daachorse_model.specs.Certain.{AreCertain, BeginEach}
 use Rattle.daachorse_model.specs.Dictionary.{Dictionary}
 use Rattle.daachorse_model.specs.Folding.{as_read, folded_unit}
-use Rattle.daachorse_model.specs.Laws.{Follows, IsOccurrence}
+use Rattle.daachorse_model.specs.Laws.{Follows}
 use Rattle.daachorse_model.specs.Leftmost.{leftmost}
-use Rattle.daachorse_model.specs.Matches.{last_end}
 use Rattle.daachorse_model.specs.Units.{size}
-use Rattle.daachorse_model.proofs.Find.{leftmost_occur}
 use Rattle.daachorse_model.proofs.Overlap.{Follows-earlier, leftmost_apart}
+use Rattle.daachorse_model.proofs.FoldLaws.{size-as_read}
 use Rattle.daachorse_model.proofs.Suffixes.{size-append}
 use Rattle.daachorse_haystack.specs.Sources.{IsReady}
 use Rattle.daachorse_replacing.specs.Replaced.{AppendsBeginning}
@@ -84,24 +82,28 @@ module _ {V P O F S U : Type 0} {bytes : P → List ℕ} {taken : O → Option (
     replaced = let R : List ℕ → Type 0 = λ l. IsReplacedSoFar bytes taken (flat_map form h.units) step (leftmost width K l) first old new in subst R h.takes.is replaced;
   }
 
+  was_held : (done : List (Match V)) → done ≡ given → IsHeld bytes taken step first old (flat_map form h.units) done place held f out
+  was_held done same = let P : List (Match V) → Type 0 = λ l. IsHeld bytes taken step first old (flat_map form h.units) l place held f out in subst P (sym same) h.is
+
   -- the certain matches went out
-  pub goes-out : {more : List (Match V)} {next : ℕ} {rest : List ℕ} {g : F} {new : O} → GoesOut bytes taken step given more place held f out next rest g new
+  pub goes-out : {done more : List (Match V)} {next : ℕ} {rest : List ℕ} {g : F} {new : O} → done ≡ given → GoesOut bytes taken step done more place held f out next rest g new
       → Goes bytes taken step first old can steps left failure unit form width K folds source read more s next rest g new
-  goes-out {more} {next} {rest} {g} {new} went = record {
+  goes-out {done} {more} {next} {rest} {g} {new} same went = record {
     units = h.units;
     takes = h.takes;
     sized = h.sized;
-    is = went.holds first old (flat_map form h.units) h.is;
+    is = went.holds first old (flat_map form h.units) (was_held done same);
     behind = λ d later is.
-        let all : leftmost width K (read ++ d) ≡ given ++ (went.more ++ later) = is ∙ ap (λ l. l ++ later) went.gives ∙ append_assoc given went.more later in
+        let all : leftmost width K (read ++ d) ≡ given ++ (went.more ++ later) =
+        is ∙ ap (λ l. l ++ later) went.gives ∙ append_assoc done went.more later ∙ ap (λ l. l ++ (went.more ++ later)) same in
         subst (λ n. Follows n later) (sym went.ends) (Follows-behind place went.more later (h.behind d (went.more ++ later) all));
   }
 
   -- or did so up to a refusal
-  pub stops-out : (all : List (Match V)) (new : O) → all ≡ leftmost width K read → GoesOutSoFar bytes taken step all given place held f out new → StopsAt new
-  stops-out all new is went =
+  pub stops-out : (done all : List (Match V)) (new : O) → done ≡ given → all ≡ leftmost width K read → GoesOutSoFar bytes taken step all done place held f out new → StopsAt new
+  stops-out done all new same is went =
       let P : List (Match V) → Type 0 = λ l. IsReplacedSoFar bytes taken (flat_map form h.units) step l first old new in
-      stopped new (subst P is (went first old (flat_map form h.units) h.is))
+      stopped new (subst P is (went first old (flat_map form h.units) (was_held done same)))
 
   -- the output took a beginning of the next n bytes, before any match that is to come
   stops-before : (n : ℕ) (new : O) (rest : List (Match V)) → leftmost width K read ≡ given ++ rest → Follows (place + n) rest → AppendsBeginning (taken out) (taken new) (take n held) → StopsAt new
@@ -151,10 +153,14 @@ module _ {V P O F S U : Type 0} {bytes : P → List ℕ} {taken : O → Option (
     pub goes-fits : (u : U) (t : S) → steps s (Some u) t → MakesProgress can left s (Some u) t → size width read + width (unit u) < 2 ^ 64
     goes-fits u t took goes = takes-fits can steps left unit width folds source as_wide h.takes u t took goes
 
+    -- so do the places of the bytes held
+    pub goes-inside : place + length held < 2 ^ 64
+    goes-inside = omega (arith, goes-count, ap (size width) h.takes.is, size-as_read width as_wide folds (map unit h.units), h.takes.ready.fits [] s refl)
+
     -- one unit more
-    pub goes-more : (u : U) (t : S) (after more : List ℕ) → steps s (Some u) t → MakesProgress can left s (Some u) t → length (form u) ≡ width (unit u)
-        → after ≡ read ++ as_read folds (unit u ∷ []) → more ≡ held ++ form u → Goes bytes taken step first old can steps left failure unit form width K folds source after given t place more f out
-    goes-more u t after more took goes long reads holds =
+    pub goes-more : (u : U) (t : S) (after more : List ℕ) (later : List (Match V)) → later ≡ given → steps s (Some u) t → MakesProgress can left s (Some u) t → length (form u) ≡ width (unit u)
+        → after ≡ read ++ as_read folds (unit u ∷ []) → more ≡ held ++ form u → Goes bytes taken step first old can steps left failure unit form width K folds source after later t place more f out
+    goes-more u t after more later same took goes long reads holds =
         let one = as_read folds (unit u ∷ []) in
         record {
           units = h.units ++ u ∷ [];
@@ -170,10 +176,10 @@ module _ {V P O F S U : Type 0} {bytes : P → List ℕ} {taken : O → Option (
                 size-append width read one,
               );
           is =
-              let T : List ℕ → Type 0 = λ l. IsHeld bytes taken step first old l given place more f out in
-              let H : List ℕ → Type 0 = λ l. IsHeld bytes taken step first old (flat_map form h.units ++ form u) given place l f out in
-              subst T (sym (form_more form h.units u)) (subst H (sym holds) (held-more bytes taken step first old h.is (form u)));
-          behind = λ d rest is. h.behind (one ++ d) rest (ap (leftmost width K) (sym (append_assoc read one d) ∙ ap (λ l. l ++ d) (sym reads)) ∙ is);
+              let T : List ℕ → Type 0 = λ l. IsHeld bytes taken step first old l later place more f out in
+              let H : List ℕ → Type 0 = λ l. IsHeld bytes taken step first old (flat_map form h.units ++ form u) later place l f out in
+              subst T (sym (form_more form h.units u)) (subst H (sym holds) (held-more bytes taken step first old (was_held later same) (form u)));
+          behind = λ d rest is. h.behind (one ++ d) rest (ap (leftmost width K) (sym (append_assoc read one d) ∙ ap (λ l. l ++ d) (sym reads)) ∙ is ∙ ap (λ l. l ++ rest) same);
         }
 
   module _ (all : given ≡ leftmost width K read) where

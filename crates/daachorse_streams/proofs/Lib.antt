@@ -6,5 +6,5 @@ pub mod StreamLaws
 pub mod ReadingLaws
 pub mod MarkLaws
 pub mod LateMatches
-pub mod OutLaws
+pub mod GoesOutLaws
 pub mod ReplacingLaws

@@ -25,7 +25,7 @@ use Rattle.daachorse_replacing.proofs.LeadsOn.{AppendsBeginning-nothing, so_far_
 use Rattle.daachorse_replacing.proofs.TakesLaws.{Takes, form_more, sized_unit, takes-first, takes-fits, takes-more}
 use Rattle.daachorse_streams.specs.Replacing.{GoesOut, GoesOutSoFar}
 use Rattle.daachorse_streams.proofs.LateMatches.{late_matches}
-use Rattle.daachorse_streams.proofs.OutLaws.{Follows-behind}
+use Rattle.daachorse_streams.proofs.GoesOutLaws.{Follows-behind}
 
 module _ {V P O F S U : Type 0} (bytes : P → List ℕ) (taken : O → Option (List ℕ)) (step : F → Match V → P → MutBor O → Result (Unit {0}) Error → MutBor O → F → Type 0) (first : F) (old : O)
     (can : S → Type 0) (steps : S → Option U → S → Type 0) (left : S → Count) (failure : S → Option Error) (unit : U → ℕ) (form : U → List ℕ) (width : ℕ → ℕ)

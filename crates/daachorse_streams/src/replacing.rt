@@ -31,8 +31,10 @@ struct Held<B: Allocator> {
 }
 
 /// Puts out what the source gives, in place of each leftmost match what `write` appends for it and
-/// its bytes, as soon as it is certain. Holds at most twice `longest` bytes, a block of 64 KiB and
-/// a unit.
+/// its bytes, as soon as the match is certain.
+///
+/// Holds at most `longest` bytes, a block of 64 KiB and a unit, and `longest` units that it may have
+/// to read again. It allocates twice, before it reads.
 ///
 /// Stops at the first error, of an allocation, the source, `out` or `write`.
 ///
@@ -41,7 +43,6 @@ struct Held<B: Allocator> {
 /// a longer one, and the source may be read. No pattern takes more bytes than `longest`. The
 /// closure may be called at any match, any bytes and any output.
 pub fn replace_leftmost_from<
-    'a,
     V: Copy,
     A: Automaton<V>,
     S: ReadSource<A::Unit>,
@@ -50,7 +51,7 @@ pub fn replace_leftmost_from<
     B: Allocator + Copy,
 >(
     automaton: A,
-    marks: &'a [bool],
+    marks: &[bool],
     folds: bool,
     mut source: S,
     longest: usize,

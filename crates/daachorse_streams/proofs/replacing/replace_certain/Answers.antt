@@ -8,7 +8,7 @@ use Rattle.daachorse_model.specs.declared.Match.{Match}
 use Rattle.daachorse_model.specs.Leftmost.{leftmost}
 use Rattle.daachorse_model.specs.Units.{size}
 use Rattle.daachorse_replacing.specs.Replaced.{AppendsBeginning}
-use Rattle.daachorse_streams.proofs.OutLaws.{IsNext, out-at, out-before, out-more, out-next, out-nothing}
+use Rattle.daachorse_streams.proofs.GoesOutLaws.{IsNext, out-at, out-before, out-more, out-next, out-nothing}
 use Rattle.daachorse_streams.proofs.replacing.replace_certain.Given as given
 use Rattle.daachorse_streams.proofs.replacing.replace_certain.Goals as goal
 use Rattle.daachorse_streams.proofs.replacing.replace_certain.Goals.{In-Some}

@@ -17,7 +17,7 @@ use Rattle.daachorse_replacing.specs.Streams.{EndsWithin, HasNoLonger, IsStreame
 use Rattle.daachorse_replacing.proofs.LeadsOn.{so_far_nothing}
 use Rattle.daachorse_replacing.proofs.SentLaws.{IsSent, sent-first, sent-more, sent-settled, sent-whole, sent-within, unsent-settled, unsent-whole}
 use Rattle.daachorse_replacing.proofs.StandardMatches.{standard-first, standard-more}
-use Rattle.daachorse_replacing.proofs.TakesLaws.{Takes, form_more, sized_unit, takes-first, takes-fits, takes-more}
+use Rattle.daachorse_replacing.proofs.GaveUnitsLaws.{GaveUnits, form_more, sized_unit, gave-first, gave-fits, gave-more}
 
 module _ {V P O F S U : Type 0} (bytes : P → List ℕ) (taken : O → Option (List ℕ)) (step : F → Match V → P → MutBor O → Result (Unit {0}) Error → MutBor O → F → Type 0) (first : F) (old : O)
     (can : S → Type 0) (steps : S → Option U → S → Type 0) (left : S → Count) (failure : S → Option Error) (unit : U → ℕ) (form : U → List ℕ) (width : ℕ → ℕ)
@@ -32,7 +32,7 @@ module _ {V P O F S U : Type 0} (bytes : P → List ℕ) (taken : O → Option (
   -- at the head of the loop: of the units taken, the match that ends with the last is still to come
   pub record Goes (read : List ℕ) (s : S) (held : List ℕ) (f : F) (out : O) : Type 0 where
     pub units : List U
-    pub takes : Takes can steps left unit width folds source units read s
+    pub gave : GaveUnits can steps left unit width folds source units read s
     pub done : List (Match V)
     pub gains : standard width K read ≡ done ++ option_to_list (standard_after width K read)
     pub sent : Sent (flat_map form units) read done held f out
@@ -43,7 +43,7 @@ module _ {V P O F S U : Type 0} (bytes : P → List ℕ) (taken : O → Option (
       let H : List ℕ → Type 0 = λ l. Goes [] source l first old in
       subst R (sym none) (subst H (sym empty) (record {
         units = [];
-        takes = takes-first can steps left unit width folds source ready [] refl;
+        gave = gave-first can steps left unit width folds source ready [] refl;
         done = [];
         gains = standard-first width K wide;
         sent = sent-first bytes taken step first old width K longest;
@@ -58,7 +58,7 @@ module _ {V P O F S U : Type 0} {bytes : P → List ℕ} {taken : O → Option (
 
     -- the place behind the next unit fits
     pub goes-fits : (u : U) (t : S) → steps s (Some u) t → MakesProgress can left s (Some u) t → size width read + width (unit u) < 2 ^ 64
-    goes-fits u t took goes = takes-fits can steps left unit width folds source as_wide h.takes u t took goes
+    goes-fits u t took goes = gave-fits can steps left unit width folds source as_wide h.gave u t took goes
 
     -- the output or the call for a match refused
     pub stops-settling : (found : Option (Match V)) → found ≡ standard_after width K read → (new : O) → SettlesSoFar bytes taken step found held f out new
@@ -66,10 +66,10 @@ module _ {V P O F S U : Type 0} {bytes : P → List ℕ} {taken : O → Option (
     stops-settling found here new part = record {
       units = h.units;
       last = s;
-      took = h.takes.took;
+      took = h.gave.took;
       replaced =
           let R : List ℕ → Type 0 = λ l. IsReplacedSoFar bytes taken (flat_map form h.units) step (standard width K l) first old new in
-          subst R h.takes.is (unsent-settled bytes taken step first old width K longest bound h.sent found here h.gains new part);
+          subst R h.gave.is (unsent-settled bytes taken step first old width K longest bound h.sent found here h.gains new part);
     }
 
     module _ (found : Option (Match V)) (here : found ≡ standard_after width K read) (rest : List ℕ) (g : F) (new : O) (settles : Settles bytes taken step longest found held f out rest g new) where
@@ -83,12 +83,12 @@ module _ {V P O F S U : Type 0} {bytes : P → List ℕ} {taken : O → Option (
         units = h.units;
         last = s;
         ended = ended;
-        took = h.takes.took;
+        took = h.gave.took;
         ends = ends;
         whole = whole;
         replaced =
             let R : List ℕ → Type 0 = λ l. IsReplaced bytes taken (flat_map form h.units) step (standard width K l) first old last in
-            subst R h.takes.is (sent-whole bytes taken step first old width K longest bound settled last went);
+            subst R h.gave.is (sent-whole bytes taken step first old width K longest bound settled last went);
       }
 
       -- the output refused some of what was held, or nothing more went to it
@@ -96,10 +96,10 @@ module _ {V P O F S U : Type 0} {bytes : P → List ℕ} {taken : O → Option (
       stops-settled last part = record {
         units = h.units;
         last = s;
-        took = h.takes.took;
+        took = h.gave.took;
         replaced =
             let R : List ℕ → Type 0 = λ l. IsReplacedSoFar bytes taken (flat_map form h.units) step (standard width K l) first old last in
-            subst R h.takes.is (unsent-whole bytes taken step first old width K longest bound settled last part);
+            subst R h.gave.is (unsent-whole bytes taken step first old width K longest bound settled last part);
       }
 
       -- one unit more
@@ -112,7 +112,7 @@ module _ {V P O F S U : Type 0} {bytes : P → List ℕ} {taken : O → Option (
           sent-more bytes taken step first old width K longest settled (form u) (as_read folds (unit u ∷ [])) one in
           record {
             units = h.units ++ u ∷ [];
-            takes = takes-more can steps left unit width folds source as_wide h.takes u t after took goes reads;
+            gave = gave-more can steps left unit width folds source as_wide h.gave u t after took goes reads;
             done = standard width K read;
             gains =
                 let Q : List ℕ → Type 0 = λ l. standard width K l ≡ standard width K read ++ option_to_list (standard_after width K l) in

@@ -8,7 +8,7 @@ pub mod Cuts
 pub mod Exact
 pub mod LeadsOn
 pub mod HeldLaws
-pub mod TakesLaws
+pub mod GaveUnitsLaws
 pub mod StandardMatches
 pub mod SentLaws
 pub mod GoesLaws

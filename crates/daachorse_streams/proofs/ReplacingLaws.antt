@@ -22,7 +22,7 @@ use Rattle.daachorse_replacing.specs.ReplacedWith.{IsReplaced, IsReplacedSoFar}
 use Rattle.daachorse_replacing.specs.Streams.{GoesOutSettled, HasNoLonger, IsHeld, IsStreamed, IsStreamedSoFar}
 use Rattle.daachorse_replacing.proofs.HeldLaws.{held-count, held-first, held-more, held-past, held-whole, unheld-within}
 use Rattle.daachorse_replacing.proofs.LeadsOn.{AppendsBeginning-nothing, so_far_nothing}
-use Rattle.daachorse_replacing.proofs.TakesLaws.{Takes, form_more, sized_unit, takes-first, takes-fits, takes-more}
+use Rattle.daachorse_replacing.proofs.GaveUnitsLaws.{GaveUnits, form_more, sized_unit, gave-first, gave-fits, gave-more}
 use Rattle.daachorse_streams.specs.Replacing.{GoesOut, GoesOutSoFar}
 use Rattle.daachorse_streams.proofs.LateMatches.{late_matches}
 use Rattle.daachorse_streams.proofs.GoesOutLaws.{Follows-behind}
@@ -33,7 +33,7 @@ module _ {V P O F S U : Type 0} (bytes : P → List ℕ) (taken : O → Option (
   -- at the head of the loop
   pub record Goes (read : List ℕ) (given : List (Match V)) (s : S) (place : ℕ) (held : List ℕ) (f : F) (out : O) : Type 0 where
     pub units : List U
-    pub takes : Takes can steps left unit width folds source units read s
+    pub gave : GaveUnits can steps left unit width folds source units read s
     pub sized : length (flat_map form units) ≡ size width read
     pub is : IsHeld bytes taken step first old (flat_map form units) given place held f out
     pub behind : (d : List ℕ) (rest : List (Match V)) → leftmost width K (read ++ d) ≡ given ++ rest → Follows place rest
@@ -55,7 +55,7 @@ module _ {V P O F S U : Type 0} (bytes : P → List ℕ) (taken : O → Option (
       let H : List ℕ → Type 0 = λ l. Goes [] [] source 0 l first old in
       subst R (sym none) (subst G (sym no_match) (subst H (sym empty) (record {
         units = [];
-        takes = takes-first can steps left unit width folds source ready [] refl;
+        gave = gave-first can steps left unit width folds source ready [] refl;
         sized = refl;
         is = held-first bytes taken step first old;
         behind = λ d rest is. subst (Follows 0) is (leftmost_apart width K d);
@@ -78,8 +78,8 @@ module _ {V P O F S U : Type 0} {bytes : P → List ℕ} {taken : O → Option (
   stopped new replaced = record {
     units = h.units;
     last = s;
-    took = h.takes.took;
-    replaced = let R : List ℕ → Type 0 = λ l. IsReplacedSoFar bytes taken (flat_map form h.units) step (leftmost width K l) first old new in subst R h.takes.is replaced;
+    took = h.gave.took;
+    replaced = let R : List ℕ → Type 0 = λ l. IsReplacedSoFar bytes taken (flat_map form h.units) step (leftmost width K l) first old new in subst R h.gave.is replaced;
   }
 
   was_held : (done : List (Match V)) → done ≡ given → IsHeld bytes taken step first old (flat_map form h.units) done place held f out
@@ -90,7 +90,7 @@ module _ {V P O F S U : Type 0} {bytes : P → List ℕ} {taken : O → Option (
       → Goes bytes taken step first old can steps left failure unit form width K folds source read more s next rest g new
   goes-out {done} {more} {next} {rest} {g} {new} same went = record {
     units = h.units;
-    takes = h.takes;
+    gave = h.gave;
     sized = h.sized;
     is = went.holds first old (flat_map form h.units) (was_held done same);
     behind = λ d later is.
@@ -131,7 +131,7 @@ module _ {V P O F S U : Type 0} {bytes : P → List ℕ} {taken : O → Option (
         → Goes bytes taken step first old can steps left failure unit form width K folds source read given s (place + n) rest f new
     goes-settled {n} {rest} {new} went = record {
       units = h.units;
-      takes = h.takes;
+      gave = h.gave;
       sized = h.sized;
       is =
           let H : List ℕ → Type 0 = λ l. IsHeld bytes taken step first old (flat_map form h.units) given (place + n) l f new in
@@ -151,11 +151,11 @@ module _ {V P O F S U : Type 0} {bytes : P → List ℕ} {taken : O → Option (
   module _ (as_wide : (u : ℕ) → width (folded_unit u) ≡ width u) where
     -- the place behind the next unit fits
     pub goes-fits : (u : U) (t : S) → steps s (Some u) t → MakesProgress can left s (Some u) t → size width read + width (unit u) < 2 ^ 64
-    goes-fits u t took goes = takes-fits can steps left unit width folds source as_wide h.takes u t took goes
+    goes-fits u t took goes = gave-fits can steps left unit width folds source as_wide h.gave u t took goes
 
     -- so do the places of the bytes held
     pub goes-inside : place + length held < 2 ^ 64
-    goes-inside = omega (arith, goes-count, ap (size width) h.takes.is, size-as_read width as_wide folds (map unit h.units), h.takes.ready.fits [] s refl)
+    goes-inside = omega (arith, goes-count, ap (size width) h.gave.is, size-as_read width as_wide folds (map unit h.units), h.gave.ready.fits [] s refl)
 
     -- one unit more
     pub goes-more : (u : U) (t : S) (after more : List ℕ) (later : List (Match V)) → later ≡ given → steps s (Some u) t → MakesProgress can left s (Some u) t → length (form u) ≡ width (unit u)
@@ -164,7 +164,7 @@ module _ {V P O F S U : Type 0} {bytes : P → List ℕ} {taken : O → Option (
         let one = as_read folds (unit u ∷ []) in
         record {
           units = h.units ++ u ∷ [];
-          takes = takes-more can steps left unit width folds source as_wide h.takes u t after took goes reads;
+          gave = gave-more can steps left unit width folds source as_wide h.gave u t after took goes reads;
           sized =
               omega (
                 arith,
@@ -190,12 +190,12 @@ module _ {V P O F S U : Type 0} {bytes : P → List ℕ} {taken : O → Option (
       units = h.units;
       last = s;
       ended = ended;
-      took = h.takes.took;
+      took = h.gave.took;
       ends = ends;
       whole = whole;
       replaced =
           let R : List (Match V) → Type 0 = λ ms. IsReplaced bytes taken (flat_map form h.units) step ms first old last in
-          subst (λ l. R (leftmost width K l)) h.takes.is (subst R all (held-whole bytes taken step first old h.is last went));
+          subst (λ l. R (leftmost width K l)) h.gave.is (subst R all (held-whole bytes taken step first old h.is last went));
     }
 
     -- or a beginning of it

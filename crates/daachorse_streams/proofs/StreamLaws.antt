@@ -24,7 +24,7 @@ use Rattle.daachorse_streams.specs.Children.{HasChild}
 use Rattle.daachorse_streams.specs.Scans.{IsPending, IsPendingSoFar, IsScan}
 use Rattle.daachorse_streams.specs.Searching.{IsSearching, Stands, given_of, passed_over, waits}
 use Rattle.daachorse_streams.proofs.GivingLaws.{now}
-use Rattle.daachorse_streams.proofs.LeftmostCertain.{begins_both, gives_none, goes_apart}
+use Rattle.daachorse_streams.proofs.LeftmostCertain.{begins_both, gives_none, goes_apart, length_size}
 use Rattle.daachorse_streams.proofs.SearchingLaws.{depth_at_first, given_is, place_is, walked_within}
 
 over_more : (b : Bool) (ahead : List ℕ) (u : ℕ) → passed_over b ahead ≤ passed_over b (ahead ++ u ∷ [])
@@ -38,13 +38,9 @@ over_few true [] = omega arith
 over_few true (x ∷ ahead) = omega arith
 
 module _ (width : ℕ → ℕ) (wide : (u : ℕ) → 1 ≤ width u) where
-  no_more_units : (w : List ℕ) → length w ≤ size width w
-  no_more_units [] = omega arith
-  no_more_units (u ∷ w) = omega (arith, wide u, no_more_units w)
-
   -- a key has at most as many units as bytes
   pub units_within : {V : Type 0} {K : Dictionary V} {longest : ℕ} → HasNoLonger width K longest → HasNoLongerKey K longest
-  units_within none w key = omega (arith, none w key, no_more_units w)
+  units_within none w key = omega (arith, none w key, length_size width wide w)
 
 module _ {V : Type 0} (width : ℕ → ℕ) (wide : (u : ℕ) → 1 ≤ width u) (view : AutomatonView V) {U ALLOC : Type 0} (unit : U → ℕ) where
   -- nothing was read yet

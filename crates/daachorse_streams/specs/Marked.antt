@@ -1,9 +1,12 @@
 -- What the leftmost streams over one automaton share, and how they begin.
-use Rattle.std.specs.Prelude.{◌≡◌, ℕ, Bool, false, List, []}
+use Rattle.std.specs.Prelude.{◌≡◌, ℕ, Bool, false, List, [], Option, Some, IsSomeAnd}
+use Rattle.std.specs.declared.io.BufReader.{BufReader}
 use Rattle.daachorse_replacing.specs.Streams.{HasNoLonger}
+use Rattle.daachorse_search.specs.Readers.{IsInBlocks, Reading, to_read}
 use Rattle.daachorse_search.specs.Views.{AutomatonView}
 use Rattle.daachorse_streams.specs.declared.stream_marks.StreamMarks.{StreamMarks}
 use Rattle.daachorse_streams.specs.Children.{HasMarks}
+use Rattle.daachorse_streams.specs.LeftmostReading.{LeftmostReading}
 use Rattle.daachorse_streams.specs.Streamed.{LeftmostStreamed}
 
 -- the marks say which states have a child, and no pattern takes more bytes than `longest`
@@ -19,3 +22,11 @@ pub record BeginsStreaming {V A : Type 0} (a : A) (option : Bool) (s : LeftmostS
   pub given : s.given ≡ []
   pub ended : s.ended ≡ false
   pub turns : s.turns ≡ 0
+
+-- in what a reader gives, in the same way
+abbrev pub BeginsReadingLeftmost : {V A R : Type 0} → A → R → Bool → Option (LeftmostReading V A (Reading R)) → Type 0
+BeginsReadingLeftmost a reader option search = IsSomeAnd search (λ s. BeginsStreaming a option s.stream × (s.source ≡ Some (to_read reader)))
+
+-- in what a reader gives by blocks; `known` is what it has left, if that is known
+abbrev pub BeginsLeftmostInBlocks : {V A R Z : Type 0} → (R → Option (List ℕ)) → A → R → Bool → Option (LeftmostReading V A (Reading (BufReader R Z))) → Type 0
+BeginsLeftmostInBlocks {R = R} {Z = Z} known a reader option search = (blocks : BufReader R Z) × IsInBlocks known reader blocks × BeginsReadingLeftmost a blocks option search

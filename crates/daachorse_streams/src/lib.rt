@@ -8,4 +8,3 @@ pub mod replacing;
 mod scan;
 mod search;
 pub mod stream_marks;
-pub mod taking;

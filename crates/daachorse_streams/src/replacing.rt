@@ -6,12 +6,13 @@ ghost use Rattle.daachorse_model.specs.Laws.{Follows};
 ghost use Rattle.daachorse_model.specs.Leftmost.{leftmost};
 ghost use Rattle.daachorse_model.specs.Units.{size};
 ghost use Rattle.daachorse_search.specs.Views.{IsLeftmostView};
-ghost use Rattle.daachorse_replacing.specs.Streams.{HasNoLonger, IsStreamed, IsStreamedSoFar};
-ghost use Rattle.daachorse_streams.specs.Children.{HasMarks};
+ghost use Rattle.daachorse_replacing.specs.Streams.{IsStreamed, IsStreamedSoFar};
+ghost use Rattle.daachorse_streams.specs.Marked.{IsMarkedFor};
 ghost use Rattle.daachorse_streams.specs.Replacing.{GoesOut, GoesOutSoFar};
 ghost use Rattle.daachorse_streams.specs.Streamed.{IsSameStream, IsSettled};
 
 use crate::leftmost_stream::LeftmostStream;
+use crate::stream_marks::StreamMarks;
 use daachorse_core::Match;
 use daachorse_core::edge_label::EdgeLabel;
 use daachorse_replacing::appending::write_whole;
@@ -33,14 +34,13 @@ struct Held<B: Allocator> {
 /// Puts out what the source gives, in place of each leftmost match what `write` appends for it and
 /// its bytes, as soon as the match is certain.
 ///
-/// Holds at most `longest` bytes, a block of 64 KiB and a unit, and `longest` units that it may have
-/// to read again. It allocates twice, before it reads.
+/// Holds at most as many bytes as the longest pattern has, a block of 64 KiB and a unit, and as many
+/// units that it may have to read again. It allocates twice, before it reads.
 ///
 /// Stops at the first error, of an allocation, the source, `out` or `write`.
 ///
 /// # Conditions
-/// The automaton is for leftmost searches, `marks` says of each state whether its text goes on to
-/// a longer one, and the source may be read. No pattern takes more bytes than `longest`. The
+/// The automaton is for leftmost searches, the marks are its own, and the source may be read. The
 /// closure may be called at any match, any bytes and any output.
 pub fn replace_leftmost_from<
     V: Copy,
@@ -49,12 +49,12 @@ pub fn replace_leftmost_from<
     O: Write,
     F: FnMut(Match<V>, &[u8], &mut O) -> io::Result<()> + Drop,
     B: Allocator + Copy,
+    C: Allocator,
 >(
     automaton: A,
-    marks: &[bool],
+    marks: &StreamMarks<C>,
     folds: bool,
     mut source: S,
-    longest: usize,
     alloc: B,
     out: &mut O,
     mut write: F,
@@ -62,16 +62,16 @@ pub fn replace_leftmost_from<
 where
     A::Unit: StepUnit,
     requires kind { IsLeftmostView (A.sees automaton) }
-    requires marks { HasMarks (A.sees automaton) marks.now }
+    requires marks { IsMarkedFor A.Unit.width (A.sees automaton) marks.now }
     requires may { S.Source.may_read source [] }
-    requires longest { HasNoLonger A.Unit.width (A.sees automaton).content longest }
     requires callable { F.IsAlwaysCallable write }
     ensures whole { OnOk result (IsStreamed (λ s. s.now) O.contents F.step S.next_gives S.failure A.Unit.unit A.Unit.form
         (λ units. leftmost A.Unit.width (A.sees automaton).content (as_read folds units)) source write out.old out.new) }
     ensures beginning { OnErr result (IsStreamedSoFar (λ s. s.now) O.contents F.step S.next_gives S.failure A.Unit.unit A.Unit.form
         (λ units. leftmost A.Unit.width (A.sees automaton).content (as_read folds units)) source write out.old out.new) }
 {
-    let mut stream = LeftmostStream::new(alloc, automaton, marks, longest, folds)?;
+    let longest = marks.longest;
+    let mut stream = LeftmostStream::new(alloc, automaton, marks, folds)?;
     let bytes = Vec::with_capacity(alloc, longest.saturating_add(ROOM))?;
     let mut held = Held { place: 0, bytes };
     'units: loop {

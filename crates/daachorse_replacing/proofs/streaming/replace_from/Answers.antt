@@ -50,7 +50,7 @@ returns-in_err-settle-clause-beginning g c =
     _ c.in_err-settle.ensures.beginning)
 
 pub next-requires : goal.next-requires
-next-requires g c = c.units.invariant.goes.takes.ready.callable
+next-requires g c = c.units.invariant.goes.gave.ready.callable
 
 pub returns-in_default-clause-whole : goal.returns-in_default-clause-whole
 returns-in_default-clause-whole g c =
@@ -76,7 +76,7 @@ consume-requires g c =
     goes-fits g.met.A.Unit.EdgeLabel.wide g.met.A.Unit.AsciiFold.as_wide c.requires.longest c.units.invariant.goes c.in-Some.unit _ c.in-Some.ensures.steps c.in-Some.ensures.goes
 
 pub units-smaller : goal.units-smaller
-units-smaller g c = (c.in-Some.ensures.goes.on c.units.invariant.goes.takes.ready.ends).2
+units-smaller g c = (c.in-Some.ensures.goes.on c.units.invariant.goes.gave.ready.ends).2
 
 pub units-preserved : goal.units-preserved
 units-preserved g c =

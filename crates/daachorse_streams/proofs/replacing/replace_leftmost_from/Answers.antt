@@ -9,7 +9,6 @@ use Rattle.daachorse_model.specs.Leftmost.{leftmost}
 use Rattle.daachorse_model.specs.Units.{size}
 use Rattle.daachorse_search.specs.Views.{AutomatonView}
 use Rattle.daachorse_replacing.specs.Replaced.{AppendsBeginning}
-use Rattle.daachorse_streams.proofs.LeftmostCertain.{length_size}
 use Rattle.daachorse_streams.proofs.ReplacingLaws.{Goes, goes-behind, goes-count, goes-first, goes-fits, goes-inside, goes-more, goes-out, goes-settled, goes-to-end, stops-at-end, stops-here, stops-out, stops-settled, streams-nothing}
 use Rattle.daachorse_streams.proofs.replacing.replace_leftmost_from.Given as given
 use Rattle.daachorse_streams.proofs.replacing.replace_leftmost_from.Goals as goal
@@ -34,10 +33,7 @@ settled : (g : given.Over) (c : In_ok-held g) → Settled g c
 settled g c =
     let was = c.units.invariant in let done = c.in_ok-replace_certain.ensures in
     let certain = certain_as_started g.A.Automaton.sees g.A.Unit.EdgeLabel.width (done.same.0 ∙ was.automaton) done.same.2 (done.settled.certain (done.same.3 ∙ was.open_yet)) in
-    record { certain = certain; goes = goes-settled (goes-out was.goes refl done.whole) g.met.A.Unit.EdgeLabel.wide c.requires.longest certain c.in_ok-held.ensures.whole }
-
-pub new-requires-clause-longest : goal.new-requires-clause-longest
-new-requires-clause-longest g c = λ k key. omega (arith, length_size g.A.Unit.EdgeLabel.width g.met.A.Unit.EdgeLabel.wide k, c.requires.longest k key)
+    record { certain = certain; goes = goes-settled (goes-out was.goes refl done.whole) g.met.A.Unit.EdgeLabel.wide c.requires.marks.longest certain c.in_ok-held.ensures.whole }
 
 pub returns-in_err-stream-clause-beginning : goal.returns-in_err-stream-clause-beginning
 returns-in_err-stream-clause-beginning g c =
@@ -86,13 +82,13 @@ returns-in_err-held-clause-beginning g c =
     let p = err_from_is_err_and c.from_residual-in_err-held.result c.from_residual-in_err-held.ensures.1 in
     let was = c.units.invariant in let done = c.in_ok-replace_certain.ensures in
     let certain = certain_as_started g.A.Automaton.sees g.A.Unit.EdgeLabel.width (done.same.0 ∙ was.automaton) done.same.2 (done.settled.certain (done.same.3 ∙ was.open_yet)) in
-    rw p.1 (stops-settled (goes-out was.goes refl done.whole) g.met.A.Unit.EdgeLabel.wide c.requires.longest certain _ c.in_err-held.ensures.beginning)
+    rw p.1 (stops-settled (goes-out was.goes refl done.whole) g.met.A.Unit.EdgeLabel.wide c.requires.marks.longest certain _ c.in_err-held.ensures.beginning)
 
 pub overflow_add-held : goal.overflow_add-held
 overflow_add-held g c = omega (arith, goes-inside (goes-out c.units.invariant.goes refl c.in_ok-replace_certain.ensures.whole) g.met.A.Unit.AsciiFold.as_wide, c.in_ok-held.ensures.whole.inner)
 
 pub next-requires : goal.next-requires
-next-requires g c = c.units.invariant.goes.takes.ready.callable
+next-requires g c = c.units.invariant.goes.gave.ready.callable
 
 pub returns-in-Some-into_failure-clause-beginning : goal.returns-in-Some-into_failure-clause-beginning
 returns-in-Some-into_failure-clause-beginning g c =
@@ -157,7 +153,7 @@ consume-requires-clause-fits g c =
     omega (arith, ap (size g.A.Unit.EdgeLabel.width) c.in_ok-replace_certain.ensures.same.2, goes-fits c.units.invariant.goes g.met.A.Unit.AsciiFold.as_wide c.in-Some.unit _ c.in-Some.ensures.steps c.in-Some.ensures.goes)
 
 pub units-smaller : goal.units-smaller
-units-smaller g c = (c.in-Some.ensures.goes.on c.units.invariant.goes.takes.ready.ends).2
+units-smaller g c = (c.in-Some.ensures.goes.on c.units.invariant.goes.gave.ready.ends).2
 
 pub units-preserved : goal.units-preserved
 units-preserved g c =

@@ -21,27 +21,27 @@ form_more form units u = flat_map-append form units (u ∷ []) ∙ ap (λ l. fla
 
 module _ {S U : Type 0} (can : S → Type 0) (steps : S → Option U → S → Type 0) (left : S → Count) (unit : U → ℕ) (width : ℕ → ℕ) (folds : Bool) (source : S) where
   -- the source gave these units, which were read, and stands at s
-  pub record Takes (units : List U) (read : List ℕ) (s : S) : Type 0 where
+  pub record GaveUnits (units : List U) (read : List ℕ) (s : S) : Type 0 where
     pub took : Yields steps source units s
     pub ready : IsReady can steps left unit width s (size width (map unit units))
     pub is : read ≡ as_read folds (map unit units)
 
-  pub takes-first : IsReady can steps left unit width source 0 → (read : List ℕ) → read ≡ [] → Takes [] read source
-  takes-first ready read none = record { took = refl; ready = ready; is = none ∙ nothing folds }
+  pub gave-first : IsReady can steps left unit width source 0 → (read : List ℕ) → read ≡ [] → GaveUnits [] read source
+  gave-first ready read none = record { took = refl; ready = ready; is = none ∙ nothing folds }
     where
       nothing : (b : Bool) → [] ≡ as_read b []
       nothing true = refl
       nothing false = refl
 
-  module _ (as_wide : (u : ℕ) → width (folded_unit u) ≡ width u) {units : List U} {read : List ℕ} {s : S} (h : Takes units read s) where
+  module _ (as_wide : (u : ℕ) → width (folded_unit u) ≡ width u) {units : List U} {read : List ℕ} {s : S} (h : GaveUnits units read s) where
     -- the place behind the next unit fits
-    pub takes-fits : (u : U) (t : S) → steps s (Some u) t → MakesProgress can left s (Some u) t → size width read + width (unit u) < 2 ^ 64
-    takes-fits u t took goes =
+    pub gave-fits : (u : U) (t : S) → steps s (Some u) t → MakesProgress can left s (Some u) t → size width read + width (unit u) < 2 ^ 64
+    gave-fits u t took goes =
         omega (arith, ap (size width) h.is, size-as_read width as_wide folds (map unit units), IsReady-next can steps left unit width s u t (size width (map unit units)) h.ready took goes)
 
     -- one unit more
-    pub takes-more : (u : U) (t : S) (after : List ℕ) → steps s (Some u) t → MakesProgress can left s (Some u) t → after ≡ read ++ as_read folds (unit u ∷ []) → Takes (units ++ u ∷ []) after t
-    takes-more u t after took goes reads =
+    pub gave-more : (u : U) (t : S) (after : List ℕ) → steps s (Some u) t → MakesProgress can left s (Some u) t → after ≡ read ++ as_read folds (unit u ∷ []) → GaveUnits (units ++ u ∷ []) after t
+    gave-more u t after took goes reads =
         let pushed = map-append unit units (u ∷ []) in
         record {
           took = Yields_push steps source units s u t h.took took;

@@ -1,8 +1,11 @@
 //! `daachorse_uses`, where no contract speaks: what is found in a stream.
 
 use daachorse::{CharwiseDoubleArrayAhoCorasick, DoubleArrayAhoCorasick, Match};
-use daachorse_uses::stream::{count_in_reader, first_in_characters, first_in_reader, name_matches};
+use daachorse_uses::stream::{
+    count_in_reader, first_in_characters, first_in_reader, name_matches, redact_log,
+};
 use std::alloc::Global;
+use std::io;
 use std::test::Fail;
 
 /// A text, the start, end and value of the match that ends first, what is not read of the text, and
@@ -63,6 +66,30 @@ fn streams_are_searched(rt: HostRuntime) -> Result<(), Fail> {
     for row in STREAM_ROWS {
         let holds = row_holds(rt.alloc(), row)?;
         assert!(&rt; holds, "{}", row.0);
+    }
+    Ok(())
+}
+
+/// A log, and what is left of it without the secrets `secret` and `secretary`.
+const LOGS: &[(&str, &str)] = &[
+    ("the secretary", "the [...]"),
+    ("a secretion, secret", "a [...]ion, [...]"),
+    ("secretsecretary\n", "[...][...]\n"),
+    ("secre", "secre"),
+    ("", ""),
+];
+
+fn is_redacted(alloc: Global, log: &str, expected: &str) -> io::Result<bool> {
+    let mut out = Vec::new(alloc);
+    redact_log("secret\n\nsecretary\n", alloc, log.as_bytes(), &mut out)?;
+    Ok(out.as_slice() == expected.as_bytes())
+}
+
+#[test]
+fn logs_are_redacted(rt: HostRuntime) -> Result<(), Fail> {
+    for (log, expected) in LOGS {
+        let holds = is_redacted(rt.alloc(), log, expected)?;
+        assert!(&rt; holds, "{log}");
     }
     Ok(())
 }

@@ -176,6 +176,9 @@ pub trait Automaton: Searched + PartialEq + Hash + Drop + Sized {
         expected: &[Found],
     ) -> Result<bool>;
 
+    /// Whether a stream of a leftmost automaton gives exactly these matches; true of another.
+    fn streams(&self, alloc: Self::Alloc, text: &str, expected: &[Found]) -> Result<bool>;
+
     /// The text in bytes, with `-` for each match of value 0 and nothing for each of value 1.
     fn replaced(&self, alloc: Self::Alloc, text: &str) -> Result<Vec<u8, Self::Alloc>>;
 

@@ -6,6 +6,7 @@ use crate::automata::{
 use crate::finding::{
     Found, are, are_found, are_found_overlapping, are_values, gives, gives_leftmost,
 };
+use crate::leftmost_streams::are_streamed_characters;
 use crate::replaced::{bracket_text, instead_of_text, write_bracketed};
 use crate::rows::{BY_CORPUS, Search, Way};
 use daachorse::charwise::Accelerated;
@@ -295,6 +296,10 @@ impl<A: Allocator + Copy> Automaton for Charwise<A> {
             }
             Err(error) => given_back(error.refusal, error.automaton == *self),
         }
+    }
+
+    fn streams(&self, alloc: A, text: &str, expected: &[Found]) -> Result<bool> {
+        are_streamed_characters(alloc, self, text, expected, &[])
     }
 
     fn replaced(&self, alloc: A, text: &str) -> Result<Vec<u8, A>> {

@@ -17,6 +17,8 @@ mod charwise;
 #[cfg(test)]
 mod finding;
 #[cfg(test)]
+mod leftmost_streams;
+#[cfg(test)]
 mod listing;
 #[cfg(test)]
 mod lookups;

@@ -89,9 +89,17 @@ const ROWS: &[Row] = &[
 
 /// A reader that is interrupted once, then gives these bytes, and then fails.
 #[derive(Drop)]
-struct Failing {
+pub struct Failing {
     was_interrupted: bool,
     left: &'static [u8],
+}
+
+/// A reader that gives these bytes, and then fails with [`ErrorKind::ConnectionReset`].
+pub fn failing(left: &'static [u8]) -> Failing {
+    Failing {
+        was_interrupted: false,
+        left,
+    }
 }
 
 impl Read for Failing {
@@ -248,11 +256,7 @@ fn readers_are_searched(rt: HostRuntime) -> Result<(), Fail> {
 #[test]
 fn an_error_comes_after_the_matches_before_it(rt: HostRuntime) -> Result<(), Fail> {
     let words: Bytewise = DoubleArrayAhoCorasick::new(rt.alloc(), [b"ab".as_slice(), b"b"])?;
-    let reader = Failing {
-        was_interrupted: false,
-        left: b"xabxb",
-    };
-    let items = words.find_overlapping_iter_from_reader(rt.alloc(), reader)?;
+    let items = words.find_overlapping_iter_from_reader(rt.alloc(), failing(b"xabxb"))?;
     let expected = [(1, 3, 0), (2, 3, 1), (4, 5, 1)];
     let reset = Some(ErrorKind::ConnectionReset);
     expect(

@@ -20,10 +20,11 @@ enum Request {
     Accelerate,
     Replace,
     ReplaceWith,
+    Stream,
 }
 
 /// The calls, each with its name and a kind.
-const REQUESTS: [(&str, MatchKind, Request); 19] = [
+const REQUESTS: [(&str, MatchKind, Request); 20] = [
     ("new", MatchKind::Standard, Request::Plainly(Plainly::New)),
     (
         "with_values",
@@ -73,6 +74,11 @@ const REQUESTS: [(&str, MatchKind, Request); 19] = [
         "replace_all_with",
         MatchKind::Standard,
         Request::ReplaceWith,
+    ),
+    (
+        "leftmost_stream",
+        MatchKind::LeftmostLongest,
+        Request::Stream,
     ),
     (
         "a read for the longest",
@@ -145,6 +151,7 @@ fn gives_of_built<S: Automaton>(
         Request::Accelerate => {
             automaton.finds_with_rows(alloc, Search::Standard, "xabcd", &[(1, 3, 2)])
         }
+        Request::Stream => automaton.streams(alloc, "xabcbcd", &[(1, 4, 1), (4, 7, 0)]),
         Request::ReplaceWith => {
             let bracketed = automaton.bracketed(alloc, "xabcbcd")?;
             Ok(bracketed.as_slice() == b"x[ab]c[bcd]".as_slice())

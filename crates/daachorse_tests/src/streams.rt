@@ -1,39 +1,105 @@
 //! What is written of a stream whose matches are replaced, over bytes and over characters.
 
-ghost use Rattle.std.specs.Prelude.{◌≡◌};
-ghost use Rattle.daachorse_model.specs.declared.MatchKind.TheVariants.{Standard};
-
 use crate::automata::{Bytewise, Charwise};
 use crate::expect;
 use crate::replaced::{Narrow, is_beginning, write_bracketed};
+use daachorse::MatchKind::{self, LeftmostFirst, LeftmostLongest, Standard};
 use daachorse::bytewise::Accelerated as BytewiseRows;
 use daachorse::charwise::Accelerated as CharwiseRows;
-use daachorse::{CharwiseDoubleArrayAhoCorasick, DoubleArrayAhoCorasick};
+use daachorse::{
+    CharwiseDoubleArrayAhoCorasick, CharwiseDoubleArrayAhoCorasickBuilder,
+    DoubleArrayAhoCorasickBuilder, Result,
+};
 use std::alloc::Global;
 use std::io::{self, ErrorKind, Read, Write};
 use std::test::Fail;
 
-/// What a row shows, the patterns, what a reader gives, and that with each match in brackets.
+/// What a row shows, the kind, the patterns, what a reader gives, and that with each match in
+/// brackets.
 type Row = (
     &'static str,
+    MatchKind,
     &'static [&'static str],
     &'static str,
     &'static str,
 );
 
+const SECRETS: &[&str] = &["secret", "secretary"];
+
 const ROWS: &[Row] = &[
-    ("each match", &["ab", "cd"], "xabcdx", "x[ab][cd]x"),
+    (
+        "each match",
+        Standard,
+        &["ab", "cd"],
+        "xabcdx",
+        "x[ab][cd]x",
+    ),
     (
         "the first ends",
+        Standard,
         &["ab", "abcd", "cd"],
         "xabcd",
         "x[ab][cd]",
     ),
-    ("a match that breaks off", &["abc"], "ababab", "ababab"),
-    ("an empty pattern", &["", "b"], "ab", "[]a[]b[]"),
-    ("no patterns", &[], "ab", "ab"),
-    ("nothing is read", &["a"], "", ""),
-    ("longer characters", &["世界", "界"], "に世界界", "に[世界][界]"),
+    (
+        "a match that breaks off",
+        Standard,
+        &["abc"],
+        "ababab",
+        "ababab",
+    ),
+    ("an empty pattern", Standard, &["", "b"], "ab", "[]a[]b[]"),
+    ("no patterns", Standard, &[], "ab", "ab"),
+    ("nothing is read", Standard, &["a"], "", ""),
+    (
+        "longer characters",
+        Standard,
+        &["世界", "界"],
+        "に世界界",
+        "に[世界][界]",
+    ),
+    (
+        "the longest",
+        LeftmostLongest,
+        SECRETS,
+        "the secretary",
+        "the [secretary]",
+    ),
+    (
+        "the longest breaks off",
+        LeftmostLongest,
+        SECRETS,
+        "a secretion, secret",
+        "a [secret]ion, [secret]",
+    ),
+    (
+        "the first registered",
+        LeftmostFirst,
+        SECRETS,
+        "a secretary",
+        "a [secret]ary",
+    ),
+    (
+        "what was read is read again",
+        LeftmostLongest,
+        &["a", "aaab"],
+        "aaac",
+        "[a][a][a]c",
+    ),
+    (
+        "an empty pattern, leftmost",
+        LeftmostLongest,
+        &["", "b"],
+        "ab",
+        "[]a[b]",
+    ),
+    (
+        "longer characters, leftmost",
+        LeftmostLongest,
+        &["世界", "世"],
+        "に世世界",
+        "に[世][世界]",
+    ),
 ];
 
 /// A reader that gives at most three bytes a call, and is interrupted before each.
@@ -66,9 +132,7 @@ fn brackets_bytes<R: Read + Drop, W: Write>(
     alloc: Global,
     reader: R,
     out: &mut W,
-) -> io::Result<()>
-    requires { words.now.parts.kind ≡ Standard }
-{
+) -> io::Result<()> {
     words.replace_all_from_reader(alloc, reader, out, write_bracketed)
 }
 
@@ -77,9 +141,7 @@ fn brackets_characters<R: Read + Drop, W: Write>(
     alloc: Global,
     reader: R,
     out: &mut W,
-) -> io::Result<()>
-    requires { words.now.parts.kind ≡ Standard }
-{
+) -> io::Result<()> {
     words.replace_all_from_reader(alloc, reader, out, write_bracketed)
 }
 
@@ -88,9 +150,7 @@ fn brackets_bytes_over_rows<R: Read + Drop, W: Write>(
     alloc: Global,
     reader: R,
     out: &mut W,
-) -> io::Result<()>
-    requires { words.now.automaton.parts.kind ≡ Standard }
-{
+) -> io::Result<()> {
     words.replace_all_from_reader(alloc, reader, out, write_bracketed)
 }
 
@@ -99,19 +159,26 @@ fn brackets_characters_over_rows<R: Read + Drop, W: Write>(
     alloc: Global,
     reader: R,
     out: &mut W,
-) -> io::Result<()>
-    requires { words.now.automaton.parts.kind ≡ Standard }
-{
+) -> io::Result<()> {
     words.replace_all_from_reader(alloc, reader, out, write_bracketed)
+}
+
+fn bytewise(alloc: Global, kind: MatchKind, patterns: &[&str]) -> Result<Bytewise> {
+    DoubleArrayAhoCorasickBuilder::new()
+        .match_kind(kind)
+        .build(alloc, patterns.iter().map(|p| p.as_bytes()))
+}
+
+fn charwise(alloc: Global, kind: MatchKind, patterns: &[&str]) -> Result<Charwise> {
+    CharwiseDoubleArrayAhoCorasickBuilder::new()
+        .match_kind(kind)
+        .build(alloc, patterns.iter().copied())
 }
 
 /// Whether an automaton over bytes writes what a row says, up to the room of the writer.
 fn holds_over_bytes(alloc: Global, row: &Row) -> io::Result<bool> {
-    let (_, patterns, text, expected) = *row;
-    let words: Bytewise = DoubleArrayAhoCorasick::new(
-        alloc,
-        patterns.iter().map(|p| p.as_bytes()),
-    )?;
+    let (_, kind, patterns, text, expected) = *row;
+    let words = bytewise(alloc, kind, patterns)?;
     for room in 0..expected.len() + 2 {
         let mut writer = Narrow {
             room,
@@ -127,8 +194,8 @@ fn holds_over_bytes(alloc: Global, row: &Row) -> io::Result<bool> {
 
 /// Whether an automaton over characters writes what a row says, up to the room of the writer.
 fn holds_over_characters(alloc: Global, row: &Row) -> io::Result<bool> {
-    let (_, patterns, text, expected) = *row;
-    let words: Charwise = CharwiseDoubleArrayAhoCorasick::new(alloc, patterns.iter().copied())?;
+    let (_, kind, patterns, text, expected) = *row;
+    let words = charwise(alloc, kind, patterns)?;
     for room in 0..expected.len() + 2 {
         let mut writer = Narrow {
             room,
@@ -144,11 +211,8 @@ fn holds_over_characters(alloc: Global, row: &Row) -> io::Result<bool> {
 
 /// Whether an automaton over bytes writes what a row says, with rows.
 fn holds_over_rows_of_bytes(alloc: Global, row: &Row) -> io::Result<bool> {
-    let (_, patterns, text, expected) = *row;
-    let words: Bytewise = DoubleArrayAhoCorasick::new(
-        alloc,
-        patterns.iter().map(|p| p.as_bytes()),
-    )?;
+    let (_, kind, patterns, text, expected) = *row;
+    let words = bytewise(alloc, kind, patterns)?;
     let Ok(rows) = words.accelerate(alloc) else {
         return Ok(false);
     };
@@ -159,8 +223,8 @@ fn holds_over_rows_of_bytes(alloc: Global, row: &Row) -> io::Result<bool> {
 
 /// Whether an automaton over characters writes what a row says, with rows.
 fn holds_over_rows_of_characters(alloc: Global, row: &Row) -> io::Result<bool> {
-    let (_, patterns, text, expected) = *row;
-    let words: Charwise = CharwiseDoubleArrayAhoCorasick::new(alloc, patterns.iter().copied())?;
+    let (_, kind, patterns, text, expected) = *row;
+    let words = charwise(alloc, kind, patterns)?;
     let Ok(rows) = words.accelerate(alloc) else {
         return Ok(false);
     };
@@ -190,9 +254,11 @@ fn long_text(alloc: Global) -> io::Result<Vec<u8>> {
 }
 
 /// Whether a stream comes out as the whole text does.
-fn is_as_whole(alloc: Global, patterns: &[&[u8]]) -> io::Result<bool> {
+fn is_as_whole(alloc: Global, kind: MatchKind, patterns: &[&[u8]]) -> io::Result<bool> {
     let text = long_text(alloc)?;
-    let words: Bytewise = DoubleArrayAhoCorasick::new(alloc, patterns.iter().copied())?;
+    let words: Bytewise = DoubleArrayAhoCorasickBuilder::new()
+        .match_kind(kind)
+        .build(alloc, patterns.iter().copied())?;
     let mut streamed = Vec::new(alloc);
     brackets_bytes(&words, alloc, &text[..], &mut streamed)?;
     let mut whole = Vec::new(alloc);
@@ -203,10 +269,20 @@ fn is_as_whole(alloc: Global, patterns: &[&[u8]]) -> io::Result<bool> {
 #[test]
 fn blocks_are_joined(rt: HostRuntime) -> Result<(), Fail> {
     let across: &[&[u8]] = &[b"aba", b"aab"];
-    expect(&rt, is_as_whole(rt.alloc(), across)?, "short patterns");
     let long = [b'a'; 70_000];
     let longest: &[&[u8]] = &[&long, b"ab"];
-    expect(&rt, is_as_whole(rt.alloc(), longest)?, "a long pattern");
+    for kind in [Standard, LeftmostLongest] {
+        expect(
+            &rt,
+            is_as_whole(rt.alloc(), kind, across)?,
+            "short patterns",
+        );
+        expect(
+            &rt,
+            is_as_whole(rt.alloc(), kind, longest)?,
+            "a long pattern",
+        );
+    }
     Ok(())
 }
 

@@ -9,7 +9,10 @@ ghost use Rattle.daachorse_model.specs.declared.MatchKind.TheVariants.{Standard}
 ghost use Rattle.daachorse_bytewise.specs.Automata as bytes;
 ghost use Rattle.daachorse_charwise.specs.Automata as characters;
 
-use daachorse::{CharwiseDoubleArrayAhoCorasick, DoubleArrayAhoCorasick, Match};
+use daachorse::{
+    CharwiseDoubleArrayAhoCorasick, DoubleArrayAhoCorasick, DoubleArrayAhoCorasickBuilder, Match,
+    MatchKind,
+};
 use std::alloc::Global;
 use std::io::{self, ErrorKind, Read, Write};
 
@@ -90,5 +93,22 @@ pub fn name_matches<R: Read + Drop, W: Write>(
 {
     words.replace_all_from_reader(alloc, reader, out, |found, _matched, out| {
         write!(out, "[{}]", found.value())
+    })
+}
+
+/// Copies a log with `[...]` in place of each of the secrets in it, of which each line of
+/// `secrets` is one. Of those that begin together it takes the longest.
+pub fn redact_log<R: Read + Drop, W: Write>(
+    secrets: &str,
+    alloc: Global,
+    log: R,
+    out: &mut W,
+) -> io::Result<()> {
+    let secrets = secrets.lines().filter(|line| !line.is_empty());
+    let words: DoubleArrayAhoCorasick<u32> = DoubleArrayAhoCorasickBuilder::new()
+        .match_kind(MatchKind::LeftmostLongest)
+        .build(alloc, secrets.map(|line| line.as_bytes()))?;
+    words.replace_all_from_reader(alloc, log, out, |_found, _secret, out| {
+        out.write_all(b"[...]")
     })
 }

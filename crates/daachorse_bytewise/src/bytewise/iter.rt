@@ -16,6 +16,7 @@ use daachorse_search::matches_from_reader::MatchesFromReader;
 use daachorse_search::overlapping::{NoSuffixWalk, OverlappingWalk};
 use daachorse_search::reader::ReadBytes;
 use daachorse_search::{find_stepper, overlapping_stepper};
+use daachorse_streams::leftmost_from_reader::LeftmostFromReader;
 use daachorse_streams::leftmost_stream;
 use std::alloc::Global;
 
@@ -91,6 +92,15 @@ pub type LeftmostFindIterator<'a, V, A = Global, S = Leftmost<'a, V>> = Leftmost
     S,
     haystack::Bytes<'a>,
     Skipping<'a, A>,
+>;
+
+/// The iterator of `leftmost_stream_from_reader`: leftmost matches in what a reader gives.
+pub type LeftmostReaderIterator<'a, R, V, B = Global, S = Leftmost<'a, V>> = LeftmostFromReader<
+    'a,
+    V,
+    S,
+    B,
+    ReadBytes<R>,
 >;
 
 /// A search for leftmost matches that is given one byte at a time.

@@ -1,19 +1,24 @@
 //! Leftmost matches in what is given byte by byte, each as soon as it is certain.
 
-ghost use Rattle.std.specs.Prelude.{◌≢◌, IfErr, IfOk};
+ghost use Rattle.std.specs.Prelude.{◌≡◌, ◌≢◌, IfErr, IfOk};
+ghost use Rattle.std.specs.IoError.{error_kind};
+ghost use Rattle.std.specs.declared.io.ErrorKind.TheVariants.{OutOfMemory};
 ghost use Rattle.daachorse_core.specs.Refusals.{IsOutOfMemory};
 ghost use Rattle.daachorse_model.specs.declared.MatchKind.TheVariants.{Standard};
 ghost use Rattle.daachorse_model.specs.Units.{byte_width};
 ghost use Rattle.daachorse_bytewise_states.specs.Valid.{sees};
-ghost use Rattle.daachorse_streams.specs.Marked.{BeginsStreaming, IsMarkedFor};
+ghost use Rattle.daachorse_streams.specs.Marked.{BeginsLeftmostInBlocks, BeginsReadingLeftmost, BeginsStreaming, IsMarkedFor};
 ghost use Rattle.daachorse_bytewise.specs.Automata.{kind_of, states_of};
 
 use super::DoubleArrayAhoCorasick;
-use super::iter::LeftmostStream;
+use super::iter::{LeftmostReaderIterator, LeftmostStream};
 use daachorse_core::errors::Result;
+use daachorse_search::reader::{ReadBytes, in_blocks};
+use daachorse_streams::leftmost_from_reader::LeftmostFromReader;
 use daachorse_streams::leftmost_stream;
 use daachorse_streams::stream_marks::StreamMarks;
 use std::alloc::Allocator;
+use std::io::{self, BufRead, BufReader, Read};
 
 impl<V: Copy, A: Allocator + Copy> DoubleArrayAhoCorasick<V, A> {
     /// Makes what leftmost streams over this automaton share: a byte for each state, and the length
@@ -55,5 +60,44 @@ impl<V: Copy, A: Allocator> DoubleArrayAhoCorasick<V, A> {
         let states = self.states.leftmost();
         let stream = leftmost_stream::LeftmostStream::new(alloc, states, marks, self.folds)?;
         Ok(stream)
+    }
+    /// Finds the matches of [`Self::leftmost_find_iter`] in what a reader gives, each as soon as it
+    /// is certain. So a call reads past a match that could be longer.
+    ///
+    /// It allocates here and then never. If the reader fails, that error comes after the matches
+    /// that are certain, and then nothing. Places count from where the reader stands.
+    ///
+    /// # Conditions
+    /// As of [`Self::leftmost_stream`].
+    pub fn leftmost_stream_from_buf_reader<'a, R: BufRead + Drop, B: Allocator, C: Allocator>(
+        &'a self,
+        alloc: B,
+        marks: &'a StreamMarks<C>,
+        reader: R,
+    ) -> io::Result<LeftmostReaderIterator<'a, R, V, B>>
+        requires kind { kind_of self.now ≢ Standard }
+        requires marks { IsMarkedFor byte_width (sees (states_of self.now)) marks.now }
+        ensures ok { IfOk result (BeginsReadingLeftmost (states_of self.entry.now) reader self.entry.now.folds) }
+        ensures err { IfErr result (λ e. error_kind e ≡ OutOfMemory) }
+    {
+        let stream = self.leftmost_stream(alloc, marks)?;
+        let source = ReadBytes::new(reader);
+        Ok(LeftmostFromReader::new(stream, source))
+    }
+
+    /// As [`Self::leftmost_stream_from_buf_reader`], by blocks of 64 KiB.
+    pub fn leftmost_stream_from_reader<'a, R: Read + Drop, B: Allocator + Copy, C: Allocator>(
+        &'a self,
+        alloc: B,
+        marks: &'a StreamMarks<C>,
+        reader: R,
+    ) -> io::Result<LeftmostReaderIterator<'a, BufReader<R, B>, V, B>>
+        requires kind { kind_of self.now ≢ Standard }
+        requires marks { IsMarkedFor byte_width (sees (states_of self.now)) marks.now }
+        ensures ok { IfOk result (BeginsLeftmostInBlocks R.remaining (states_of self.entry.now) reader self.entry.now.folds) }
+        ensures err { IfErr result (λ e. error_kind e ≡ OutOfMemory) }
+    {
+        let blocks = in_blocks(alloc, reader)?;
+        self.leftmost_stream_from_buf_reader(alloc, marks, blocks)
     }
 }

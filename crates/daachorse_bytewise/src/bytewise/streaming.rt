@@ -1,20 +1,23 @@
 //! The bytes that a reader gives with their matches replaced.
 
-ghost use Rattle.std.specs.Prelude.{◌≡◌, IfErr, IfOk, OnErr, OnOk, ⊤};
+ghost use Rattle.std.specs.Prelude.{◌≡◌, ◌≢◌, IfErr, IfOk, OnErr, OnOk, ⊤};
 ghost use Rattle.daachorse_core.specs.Refusals.{IsOutOfMemory};
 ghost use Rattle.daachorse_model.specs.declared.MatchKind.TheVariants.{Standard};
 ghost use Rattle.daachorse_model.specs.Folding.{as_read};
+ghost use Rattle.daachorse_model.specs.Leftmost.{leftmost};
 ghost use Rattle.daachorse_model.specs.Matches.{standard};
 ghost use Rattle.daachorse_model.specs.Units.{byte_width};
+ghost use Rattle.daachorse_replacing.specs.ByKind.{non_overlapping};
 ghost use Rattle.daachorse_replacing.specs.Streams.{HasNoLonger, IsReadReplaced, IsReadReplacedSoFar};
 ghost use Rattle.daachorse_bytewise.specs.Automata.{dictionary_of, kind_of};
 
 use super::DoubleArrayAhoCorasick;
 use super::accelerated::Accelerated;
-use daachorse_core::Match;
 use daachorse_core::errors::Result;
+use daachorse_core::{Match, MatchKind};
 use daachorse_replacing::streaming::replace_from;
 use daachorse_search::reader::{ReadBytes, in_blocks};
+use daachorse_streams::replacing::replace_leftmost_from;
 use std::alloc::Allocator;
 use std::io::{self, Read, Write};
 
@@ -22,7 +25,7 @@ impl<V: Copy, A: Allocator + Copy> DoubleArrayAhoCorasick<V, A> {
     /// Writes the bytes that a reader gives, and in place of each match what `write` writes for it.
     ///
     /// `write` gets the match, the bytes that matched, and the writer. The matches are those of
-    /// [`Self::find_iter`]. Of `ab` and `b`, each replaced by its length, `abxb` becomes `2x1`.
+    /// [`Self::replace_all`]. Of `ab` and `b`, each replaced by its length, `abxb` becomes `2x1`.
     ///
     /// It holds at most as many bytes as the longest pattern has, and two blocks of 64 KiB. To find
     /// the longest it lists the patterns first, for which it takes what [`Self::iter`] takes.
@@ -36,6 +39,27 @@ impl<V: Copy, A: Allocator + Copy> DoubleArrayAhoCorasick<V, A> {
         F: FnMut(Match<V>, &[u8], &mut O) -> io::Result<()> + Drop,
         B: Allocator + Copy,
     >(&self, alloc: B, reader: R, out: &mut O, write: F) -> io::Result<()>
+        requires callable { F.IsAlwaysCallable write }
+        ensures whole { OnOk result (IsReadReplaced (λ s. s.now) O.contents F.step (λ byte. ⊤) (λ bytes. bytes) (R.remaining reader)
+            (λ bytes. non_overlapping (kind_of self.now) byte_width (dictionary_of self.now) (as_read self.now.folds bytes)) write out.old out.new) }
+        ensures beginning { OnErr result (IsReadReplacedSoFar (λ s. s.now) O.contents F.step (λ byte. ⊤) (λ bytes. bytes) (R.remaining reader)
+            (λ bytes. non_overlapping (kind_of self.now) byte_width (dictionary_of self.now) (as_read self.now.folds bytes)) write out.old out.new) }
+    {
+        match self.match_kind() {
+            MatchKind::Standard => self.replace_standard(alloc, reader, out, write),
+            MatchKind::LeftmostLongest | MatchKind::LeftmostFirst => {
+                self.replace_leftmost(alloc, reader, out, write)
+            }
+        }
+    }
+
+    /// [`Self::replace_all_from_reader`] for standard matches.
+    fn replace_standard<
+        R: Read + Drop,
+        O: Write,
+        F: FnMut(Match<V>, &[u8], &mut O) -> io::Result<()> + Drop,
+        B: Allocator + Copy,
+    >(&self, alloc: B, reader: R, out: &mut O, write: F) -> io::Result<()>
         requires kind { kind_of self.now ≡ Standard }
         requires callable { F.IsAlwaysCallable write }
         ensures whole { OnOk result (IsReadReplaced (λ s. s.now) O.contents F.step (λ byte. ⊤) (λ bytes. bytes) (R.remaining reader)
@@ -43,7 +67,6 @@ impl<V: Copy, A: Allocator + Copy> DoubleArrayAhoCorasick<V, A> {
         ensures beginning { OnErr result (IsReadReplacedSoFar (λ s. s.now) O.contents F.step (λ byte. ⊤) (λ bytes. bytes) (R.remaining reader)
             (λ bytes. standard byte_width (dictionary_of self.now) (as_read self.now.folds bytes)) write out.old out.new) }
     {
-        prove!(self.match_kind().is_standard());
         let longest = self.longest_pattern()?;
         let source = ReadBytes::new(in_blocks(alloc, reader)?);
         replace_from(
@@ -55,6 +78,26 @@ impl<V: Copy, A: Allocator + Copy> DoubleArrayAhoCorasick<V, A> {
             out,
             write,
         )
+    }
+
+    /// [`Self::replace_all_from_reader`] for leftmost matches.
+    fn replace_leftmost<
+        R: Read + Drop,
+        O: Write,
+        F: FnMut(Match<V>, &[u8], &mut O) -> io::Result<()> + Drop,
+        B: Allocator + Copy,
+    >(&self, alloc: B, reader: R, out: &mut O, write: F) -> io::Result<()>
+        requires kind { kind_of self.now ≢ Standard }
+        requires callable { F.IsAlwaysCallable write }
+        ensures whole { OnOk result (IsReadReplaced (λ s. s.now) O.contents F.step (λ byte. ⊤) (λ bytes. bytes) (R.remaining reader)
+            (λ bytes. leftmost byte_width (dictionary_of self.now) (as_read self.now.folds bytes)) write out.old out.new) }
+        ensures beginning { OnErr result (IsReadReplacedSoFar (λ s. s.now) O.contents F.step (λ byte. ⊤) (λ bytes. bytes) (R.remaining reader)
+            (λ bytes. leftmost byte_width (dictionary_of self.now) (as_read self.now.folds bytes)) write out.old out.new) }
+    {
+        let marks = self.stream_marks(*self.depths.allocator())?;
+        let source = ReadBytes::new(in_blocks(alloc, reader)?);
+        let states = self.states.leftmost();
+        replace_leftmost_from(states, &marks, self.folds, source, alloc, out, write)
     }
 
     /// The length of the longest pattern.
@@ -72,8 +115,31 @@ impl<V: Copy, A: Allocator + Copy> DoubleArrayAhoCorasick<V, A> {
 }
 
 impl<V: Copy, A: Allocator + Copy> Accelerated<V, A> {
-    /// As [`DoubleArrayAhoCorasick::replace_all_from_reader`], over rows.
+    /// As [`DoubleArrayAhoCorasick::replace_all_from_reader`], over rows if the kind is
+    /// [`MatchKind::Standard`].
     pub fn replace_all_from_reader<
+        R: Read + Drop,
+        O: Write,
+        F: FnMut(Match<V>, &[u8], &mut O) -> io::Result<()> + Drop,
+        B: Allocator + Copy,
+    >(&self, alloc: B, reader: R, out: &mut O, write: F) -> io::Result<()>
+        requires callable { F.IsAlwaysCallable write }
+        ensures whole { OnOk result (IsReadReplaced (λ s. s.now) O.contents F.step (λ byte. ⊤) (λ bytes. bytes) (R.remaining reader)
+            (λ bytes. non_overlapping (kind_of self.now.automaton) byte_width (dictionary_of self.now.automaton) (as_read self.now.automaton.folds bytes)) write out.old out.new) }
+        ensures beginning { OnErr result (IsReadReplacedSoFar (λ s. s.now) O.contents F.step (λ byte. ⊤) (λ bytes. bytes) (R.remaining reader)
+            (λ bytes. non_overlapping (kind_of self.now.automaton) byte_width (dictionary_of self.now.automaton) (as_read self.now.automaton.folds bytes)) write out.old out.new) }
+    {
+        match self.match_kind() {
+            MatchKind::Standard => self.replace_standard(alloc, reader, out, write),
+            MatchKind::LeftmostLongest | MatchKind::LeftmostFirst => {
+                self.automaton()
+                    .replace_all_from_reader(alloc, reader, out, write)
+            }
+        }
+    }
+
+    /// [`Self::replace_all_from_reader`] for standard matches.
+    fn replace_standard<
         R: Read + Drop,
         O: Write,
         F: FnMut(Match<V>, &[u8], &mut O) -> io::Result<()> + Drop,
@@ -86,7 +152,6 @@ impl<V: Copy, A: Allocator + Copy> Accelerated<V, A> {
         ensures beginning { OnErr result (IsReadReplacedSoFar (λ s. s.now) O.contents F.step (λ byte. ⊤) (λ bytes. bytes) (R.remaining reader)
             (λ bytes. standard byte_width (dictionary_of self.now.automaton) (as_read self.now.automaton.folds bytes)) write out.old out.new) }
     {
-        prove!(self.automaton().match_kind().is_standard());
         let longest = self.automaton().longest_pattern()?;
         let source = ReadBytes::new(in_blocks(alloc, reader)?);
         let folds = self.automaton().is_ascii_case_insensitive();

@@ -1,22 +1,25 @@
 //! The text that a reader gives with its matches replaced.
 
-ghost use Rattle.std.specs.Prelude.{◌≡◌, IfErr, IfOk, OnErr, OnOk, encode_utf8_all};
+ghost use Rattle.std.specs.Prelude.{◌≡◌, ◌≢◌, IfErr, IfOk, OnErr, OnOk, encode_utf8_all};
 ghost use Rattle.std.specs.Char.{IsScalar};
 ghost use Rattle.daachorse_core.specs.Refusals.{IsOutOfMemory};
 ghost use Rattle.daachorse_model.specs.declared.MatchKind.TheVariants.{Standard};
 ghost use Rattle.daachorse_model.specs.Folding.{as_read};
+ghost use Rattle.daachorse_model.specs.Leftmost.{leftmost};
 ghost use Rattle.daachorse_model.specs.Matches.{standard};
 ghost use Rattle.daachorse_model.specs.Units.{char_width};
+ghost use Rattle.daachorse_replacing.specs.ByKind.{non_overlapping};
 ghost use Rattle.daachorse_replacing.specs.Streams.{HasNoLonger, IsReadReplaced, IsReadReplacedSoFar};
 ghost use Rattle.daachorse_charwise.specs.Automata.{dictionary_of, kind_of};
 
 use super::CharwiseDoubleArrayAhoCorasick;
 use super::accelerated::Accelerated;
-use daachorse_core::Match;
 use daachorse_core::errors::Result;
+use daachorse_core::{Match, MatchKind};
 use daachorse_replacing::streaming::replace_from;
 use daachorse_search::read_chars::ReadChars;
 use daachorse_search::reader::in_blocks;
+use daachorse_streams::replacing::replace_leftmost_from;
 use std::alloc::Allocator;
 use std::io::{self, Read, Write};
 
@@ -40,6 +43,27 @@ impl<V: Copy, A: Allocator + Copy> CharwiseDoubleArrayAhoCorasick<V, A> {
         F: FnMut(Match<V>, &[u8], &mut O) -> io::Result<()> + Drop,
         B: Allocator + Copy,
     >(&self, alloc: B, reader: R, out: &mut O, write: F) -> io::Result<()>
+        requires callable { F.IsAlwaysCallable write }
+        ensures whole { OnOk result (IsReadReplaced (λ s. s.now) O.contents F.step IsScalar encode_utf8_all (R.remaining reader)
+            (λ characters. non_overlapping (kind_of self.now) char_width (dictionary_of self.now) (as_read self.now.folds characters)) write out.old out.new) }
+        ensures beginning { OnErr result (IsReadReplacedSoFar (λ s. s.now) O.contents F.step IsScalar encode_utf8_all (R.remaining reader)
+            (λ characters. non_overlapping (kind_of self.now) char_width (dictionary_of self.now) (as_read self.now.folds characters)) write out.old out.new) }
+    {
+        match self.match_kind() {
+            MatchKind::Standard => self.replace_standard(alloc, reader, out, write),
+            MatchKind::LeftmostLongest | MatchKind::LeftmostFirst => {
+                self.replace_leftmost(alloc, reader, out, write)
+            }
+        }
+    }
+
+    /// [`Self::replace_all_from_reader`] for standard matches.
+    fn replace_standard<
+        R: Read + Drop,
+        O: Write,
+        F: FnMut(Match<V>, &[u8], &mut O) -> io::Result<()> + Drop,
+        B: Allocator + Copy,
+    >(&self, alloc: B, reader: R, out: &mut O, write: F) -> io::Result<()>
         requires kind { kind_of self.now ≡ Standard }
         requires callable { F.IsAlwaysCallable write }
         ensures whole { OnOk result (IsReadReplaced (λ s. s.now) O.contents F.step IsScalar encode_utf8_all (R.remaining reader)
@@ -47,7 +71,6 @@ impl<V: Copy, A: Allocator + Copy> CharwiseDoubleArrayAhoCorasick<V, A> {
         ensures beginning { OnErr result (IsReadReplacedSoFar (λ s. s.now) O.contents F.step IsScalar encode_utf8_all (R.remaining reader)
             (λ characters. standard char_width (dictionary_of self.now) (as_read self.now.folds characters)) write out.old out.new) }
     {
-        prove!(self.match_kind().is_standard());
         let longest = self.longest_pattern()?;
         let source = ReadChars::new(in_blocks(alloc, reader)?);
         replace_from(
@@ -59,6 +82,26 @@ impl<V: Copy, A: Allocator + Copy> CharwiseDoubleArrayAhoCorasick<V, A> {
             out,
             write,
         )
+    }
+
+    /// [`Self::replace_all_from_reader`] for leftmost matches.
+    fn replace_leftmost<
+        R: Read + Drop,
+        O: Write,
+        F: FnMut(Match<V>, &[u8], &mut O) -> io::Result<()> + Drop,
+        B: Allocator + Copy,
+    >(&self, alloc: B, reader: R, out: &mut O, write: F) -> io::Result<()>
+        requires kind { kind_of self.now ≢ Standard }
+        requires callable { F.IsAlwaysCallable write }
+        ensures whole { OnOk result (IsReadReplaced (λ s. s.now) O.contents F.step IsScalar encode_utf8_all (R.remaining reader)
+            (λ characters. leftmost char_width (dictionary_of self.now) (as_read self.now.folds characters)) write out.old out.new) }
+        ensures beginning { OnErr result (IsReadReplacedSoFar (λ s. s.now) O.contents F.step IsScalar encode_utf8_all (R.remaining reader)
+            (λ characters. leftmost char_width (dictionary_of self.now) (as_read self.now.folds characters)) write out.old out.new) }
+    {
+        let marks = self.stream_marks(*self.depths.allocator())?;
+        let source = ReadChars::new(in_blocks(alloc, reader)?);
+        let states = self.states.leftmost();
+        replace_leftmost_from(states, &marks, self.folds, source, alloc, out, write)
     }
 
     /// The length of the longest pattern, in bytes.
@@ -76,8 +119,31 @@ impl<V: Copy, A: Allocator + Copy> CharwiseDoubleArrayAhoCorasick<V, A> {
 }
 
 impl<V: Copy, A: Allocator + Copy> Accelerated<V, A> {
-    /// As [`CharwiseDoubleArrayAhoCorasick::replace_all_from_reader`], over rows.
+    /// As [`CharwiseDoubleArrayAhoCorasick::replace_all_from_reader`], over rows if the kind is
+    /// [`MatchKind::Standard`].
     pub fn replace_all_from_reader<
+        R: Read + Drop,
+        O: Write,
+        F: FnMut(Match<V>, &[u8], &mut O) -> io::Result<()> + Drop,
+        B: Allocator + Copy,
+    >(&self, alloc: B, reader: R, out: &mut O, write: F) -> io::Result<()>
+        requires callable { F.IsAlwaysCallable write }
+        ensures whole { OnOk result (IsReadReplaced (λ s. s.now) O.contents F.step IsScalar encode_utf8_all (R.remaining reader)
+            (λ characters. non_overlapping (kind_of self.now.automaton) char_width (dictionary_of self.now.automaton) (as_read self.now.automaton.folds characters)) write out.old out.new) }
+        ensures beginning { OnErr result (IsReadReplacedSoFar (λ s. s.now) O.contents F.step IsScalar encode_utf8_all (R.remaining reader)
+            (λ characters. non_overlapping (kind_of self.now.automaton) char_width (dictionary_of self.now.automaton) (as_read self.now.automaton.folds characters)) write out.old out.new) }
+    {
+        match self.match_kind() {
+            MatchKind::Standard => self.replace_standard(alloc, reader, out, write),
+            MatchKind::LeftmostLongest | MatchKind::LeftmostFirst => {
+                self.automaton()
+                    .replace_all_from_reader(alloc, reader, out, write)
+            }
+        }
+    }
+
+    /// [`Self::replace_all_from_reader`] for standard matches.
+    fn replace_standard<
         R: Read + Drop,
         O: Write,
         F: FnMut(Match<V>, &[u8], &mut O) -> io::Result<()> + Drop,
@@ -90,7 +156,6 @@ impl<V: Copy, A: Allocator + Copy> Accelerated<V, A> {
         ensures beginning { OnErr result (IsReadReplacedSoFar (λ s. s.now) O.contents F.step IsScalar encode_utf8_all (R.remaining reader)
             (λ characters. standard char_width (dictionary_of self.now.automaton) (as_read self.now.automaton.folds characters)) write out.old out.new) }
     {
-        prove!(self.automaton().match_kind().is_standard());
         let longest = self.automaton().longest_pattern()?;
         let source = ReadChars::new(in_blocks(alloc, reader)?);
         let folds = self.automaton().is_ascii_case_insensitive();

@@ -1,34 +1,37 @@
 -- Files that are asked for one after the other, and how an attempt ends.
-use Rattle.std.proofs.Common.{◌≡◌, ℕ, ◌+◌, ◌<◌, ◌==◌, ◌||◌, ◌⊎◌, inl, inr, length, Bool, true, false, not, nat_lt, Option, Some, None, Result, Ok, Err, List, [], ◌∷◌, ◌++◌, map, flat_map, take, drop, get_or, drop-cons, add-one, take-append-drop, refl, ap, sym, subst, ◌∙◌, append_assoc, append-nil}
-use Rattle.std.proofs.KnownBytes.{Appends-nil}
+use Rattle.std.proofs.Common.{◌≡◌, ℕ, ◌+◌, ◌<◌, ◌||◌, inl, inr, length, Bool, true, false, Option, Some, None, Result, Ok, Err, List, [], ◌∷◌, ◌++◌, map, flat_map, take, drop, get_or, drop-cons, add-one, take-append-drop, refl, ap, sym, subst, ◌∙◌, append_assoc, append-nil}
+use Rattle.std.proofs.KnownBytes.{Appends-nil, Keeps-refl}
 use Rattle.std.proofs.lemmas.Grind.{flat_map-append}
 use Rattle.std.proofs.lemmas.List.{map-append, take_more}
 use Rattle.std.proofs.lemmas.List.Elements.{All-append, All-cons, All-nil}
 use Rattle.std.proofs.lemmas.List.Folds.{list_any-append}
-use Rattle.std.specs.Prelude.{IfOk, is_none}
+use Rattle.std.specs.Prelude.{◌^◌, IfOk, OnErr, OnOk, is_none}
+use Rattle.std.specs.Int.{w32}
 use Rattle.std.specs.Borrow.{Bor}
-use Rattle.std.specs.List.{list_any}
 use Rattle.std.specs.Io.KnownBytes.{Appends, Keeps}
 use Rattle.daachorse_model.specs.Dictionary.{Dictionary, dictionary}
-use Rattle.daachorse_model.specs.declared.MatchKind.{MatchKind}
 use Rattle.daachorse_model.specs.Folding.{texts_as_read}
-use Rattle.daachorse_model.specs.Program.{pattern_lines, with_numbers}
+use Rattle.daachorse_model.specs.Program.{with_numbers}
 use Rattle.daachorse_bytewise.specs.Automata.{Automaton, dictionary_of}
-use Rattle.daachorse_bytewise.specs.Building.{IsBuiltOf}
-use Rattle.daachorse_bytewise.specs.Patterns.{AreIndexed}
+use Rattle.daachorse_bytewise.specs.Forms.{number_form}
+use Rattle.daachorse_bytewise.specs.WrittenForms.{IsAutomaton, written_form}
 use Rattle.daachorse_bytewise.specs.Replaced.{AppendsBeginning}
+use Rattle.daachorse_bytewise.specs.Patterns.{AreIndexed}
 use Rattle.daacfind_command.specs.Commands.{Tells}
 use Rattle.daacfind_command.specs.Runs.{IsWritten, value_gives}
 use Rattle.daacgrep_command.specs.declared.files.Outcome.{Outcome}
 use Rattle.daacgrep_command.specs.declared.options.Role.TheVariants.{Any}
 use Rattle.daacgrep_command.specs.declared.search.Task.{Task}
 use Rattle.daacgrep_command.specs.declared.flag.Flag.{Flag}
-use Rattle.daacgrep_command.specs.declared.flag.Flag.TheVariants.{Help, IgnoreCase, Quiet, Version}
+use Rattle.daacgrep_command.specs.declared.flag.Flag.TheVariants.{Help, IgnoreCase, Quiet, Values, Version}
 use Rattle.daacgrep_command.specs.Flags.{asks}
 use Rattle.daacgrep_command.specs.Lines.{TextLine, lines_from}
-use Rattle.daacgrep_command.specs.Options.{Asked, AreKnown, options_of, requests}
-use Rattle.daacgrep_command.specs.Asked.{AreFilesOf, AreSearched, Ends, EndsBy, GivenFile, GivesPatterns, HasRead, IsCutOff, IsForPatterns, IsSearch, IsSearched, both, closed_file, dictionary_asked, files_text, has_unread, kind_asked, names_asked, outcome_of, pattern_text, selects_of, shown, status_of, status_of_outcome, task_of, tells_of_itself, text_of_file}
+use Rattle.daacgrep_command.specs.Options.{Asked, CanBeMet, last_of, options_of, requests}
+use Rattle.daacgrep_command.specs.Asked.{AreFilesOf, AreSearched, AreSought, Ends, EndsBy, GivenFile, GivesPatterns, HasRead, IsAnswer, IsAutomatonAsked, IsCutOff, IsSave, IsSearch, IsSearched, IsWork, both, closed_file, dictionary_asked, files_text, kind_asked, names_asked, names_patterns, outcome_of, rules_asked, selects_of, shown, sought_asked, status_of, status_of_outcome, task_of, tells_of_itself, text_of_file}
 use Rattle.daacgrep_command.specs.Printed.{file_text}
+use Rattle.daacgrep_command.specs.Rules.{pattern_of}
+use Rattle.daacgrep_command.specs.Saved.{SavedFile, Stores}
+use Rattle.daacgrep_command.specs.Sought.{Sought, sought_of}
 use Rattle.daacgrep_command.proofs.Writing.{flushed, then_more, then_none, unflushed}
 
 -- what was written whole is so with any value
@@ -81,34 +84,34 @@ read_more given names name bytes old mid new h t e =
 pub read_none : (given : Files) (old : List ℕ) → HasRead given [] old old
 read_none given old = record { files = []; are_files = files_none given; are_read = refl; added = sym (append-nil old) }
 
-module _ (K : Dictionary ℕ) (folds : Bool) (task : Task) where
-  outcome_append : (files later : List GivenFile) → outcome_of K folds task (files ++ later) ≡ both (outcome_of K folds task files) (outcome_of K folds task later)
+module _ (s : Sought) (rules : List (List ℕ)) (task : Task) where
+  outcome_append : (files later : List GivenFile) → outcome_of s task (files ++ later) ≡ both (outcome_of s task files) (outcome_of s task later)
   outcome_append files later =
-      let a = list_any-append (selects_of K folds task) files later in
+      let a = list_any-append (selects_of s task) files later in
       let b = list_any-append (λ (f : GivenFile). is_none f.bytes) files later in cc
 
   module _ {E : Type 0} (given : Files) (a b c : Option (List ℕ)) (f g h : ℕ) where
     -- more files were searched
-    pub searched_then : (names more : List (List ℕ)) (o p : Outcome) → AreSearched K folds task given names {E = E} a b f g (Ok o) → AreSearched K folds task given more {E = E} b c g h (Ok p)
-        → AreSearched K folds task given (names ++ more) {E = E} a c f h (Ok (both o p))
+    pub searched_then : (names more : List (List ℕ)) (o p : Outcome) → AreSearched s rules task given names {E = E} a b f g (Ok o) → AreSearched s rules task given more {E = E} b c g h (Ok p)
+        → AreSearched s rules task given (names ++ more) {E = E} a c f h (Ok (both o p))
     searched_then names more o p v w = record {
       files = v.files ++ w.files;
       are_files = files_then given names more v.files w.files v.are_files w.are_files;
-      written = subst (λ t. IsWritten {T = Outcome} {E = E} a c f h (Ok (both o p)) t) (sym (flat_map-append (text_of_file K folds task) v.files w.files))
-          (so_ended (both o p) (then_more a b c f g h (files_text K folds task v.files) (files_text K folds task w.files) o (Ok p) v.written w.written));
-      outcome = ap (λ x. both x p) v.outcome ∙ ap (both (outcome_of K folds task v.files)) w.outcome ∙ sym (outcome_append v.files w.files);
+      written = subst (λ t. IsWritten {T = Outcome} {E = E} a c f h (Ok (both o p)) t) (sym (flat_map-append (text_of_file s rules task) v.files w.files))
+          (so_ended (both o p) (then_more a b c f g h (files_text s rules task v.files) (files_text s rules task w.files) o (Ok p) v.written w.written));
+      outcome = ap (λ x. both x p) v.outcome ∙ ap (both (outcome_of s task v.files)) w.outcome ∙ sym (outcome_append v.files w.files);
     }
 
     -- the search of some files failed, and others were left
-    pub searched_cut : (names more rest : List (List ℕ)) (o : Outcome) (e : E) → AreSearched K folds task given names {E = E} a b f g (Ok o) → AreSearched K folds task given more {E = E} b c g h (Err e)
-        → AreSearched K folds task given (names ++ (more ++ rest)) {E = E} a c f h (Err e)
+    pub searched_cut : (names more rest : List (List ℕ)) (o : Outcome) (e : E) → AreSearched s rules task given names {E = E} a b f g (Ok o) → AreSearched s rules task given more {E = E} b c g h (Err e)
+        → AreSearched s rules task given (names ++ (more ++ rest)) {E = E} a c f h (Err e)
     searched_cut names more rest o e v w =
         let left = files_of_all given rest in
-        let T = files_text K folds task in
+        let T = files_text s rules task in
         let here = then_none {U = Outcome} {E = E} b c g h (T w.files) (T left.0) e w.written in
         let all = then_more {U = Outcome} {E = E} a b c f g h (T v.files) (T w.files ++ T left.0) o (Err e) v.written here in
         let joined : T (v.files ++ (w.files ++ left.0)) ≡ T v.files ++ (T w.files ++ T left.0) =
-        flat_map-append (text_of_file K folds task) v.files (w.files ++ left.0) ∙ ap (λ l. T v.files ++ l) (flat_map-append (text_of_file K folds task) w.files left.0) in
+        flat_map-append (text_of_file s rules task) v.files (w.files ++ left.0) ∙ ap (λ l. T v.files ++ l) (flat_map-append (text_of_file s rules task) w.files left.0) in
         record {
           files = v.files ++ (w.files ++ left.0);
           are_files = files_then given names (more ++ rest) v.files _ v.are_files (files_then given more rest w.files left.0 w.are_files left.1);
@@ -127,77 +130,129 @@ numbered_of i [] ((u, v) ∷ rs) h = absurd h
 numbered_of i (t ∷ ts) [] h = absurd h
 numbered_of i (t ∷ ts) ((u, v) ∷ rs) h = let first = h.1.1 in let rest = numbered_of (i + 1) ts rs h.2 in cc (first, rest, h.0)
 
--- what is built of the patterns that are asked for holds them
-pub built_for : (asked : Asked) (given : Files) (text : List ℕ) (kind : MatchKind) (folds : Bool) (texts : List (List ℕ)) (a : Automaton ℕ) → GivesPatterns asked given text
-    → texts ≡ pattern_lines text → kind ≡ kind_asked asked.flags → folds ≡ asks IgnoreCase asked.flags → IsBuiltOf value_gives kind folds texts a → IsForPatterns asked given a
-built_for asked given text kind folds texts a gives are_lines is_kind is_fold h =
-    let held : dictionary_of a ≡ dictionary kind (texts_as_read folds h.0) = λ i w. h.2.holds w i in
-    record {
-      files = gives.files;
-      are_files = gives.are_files;
-      are_read = gives.are_read;
-      holds = held ∙ ap (λ l. dictionary kind (texts_as_read folds l)) (numbered_of 0 texts h.0 h.1)
-          ∙ ap (λ l. dictionary kind (texts_as_read folds (with_numbers 0 l))) (are_lines ∙ ap pattern_lines gives.is)
-          ∙ ap (λ k. dictionary k (texts_as_read folds (with_numbers 0 (pattern_lines (pattern_text asked.patterns gives.files))))) is_kind
-          ∙ ap (λ b. dictionary (kind_asked asked.flags) (texts_as_read b (with_numbers 0 (pattern_lines (pattern_text asked.patterns gives.files))))) is_fold;
-      folds = h.2.folds ∙ is_fold;
-    }
+module _ (flags : List Flag) (given : Files) (rules : List (List ℕ)) where
+  -- the patterns that an automaton holds that is asked for
+  record Seeks (load : Option (List ℕ)) (s : Sought) : Type 0 where
+    patterns : Dictionary ℕ
+    are_sought : AreSought flags given rules load patterns
+    is : s ≡ sought_asked flags patterns
 
-module _ (asked : Asked) (given : Files) where
-  -- a search for what is asked for
-  search_of : (s : Automaton ℕ) (files : List GivenFile) → IsForPatterns asked given s → AreFilesOf given (names_asked asked.files) files
-      → IsSearch asked given (files_text (dictionary_of s) s.folds (task_of asked) files) (status_of_outcome (asks Quiet asked.flags) (outcome_of (dictionary_of s) s.folds (task_of asked) files))
-  search_of s files p q = record {
-    pattern_files = p.files;
-    are_pattern_files = p.are_files;
-    are_read = p.are_read;
-    files = files;
-    are_files = q;
-    text_is = ap (λ K. files_text K s.folds (task_of asked) files) p.holds ∙ ap (λ b. files_text (dictionary_asked asked p.files) b (task_of asked) files) p.folds;
-    status_is = ap (λ K. status_of_outcome (asks Quiet asked.flags) (outcome_of K s.folds (task_of asked) files)) p.holds
-        ∙ ap (λ b. status_of_outcome (asks Quiet asked.flags) (outcome_of (dictionary_asked asked p.files) b (task_of asked) files)) p.folds;
-  }
+  sought_by : (load : Option (List ℕ)) (a : Automaton ℕ) → IsAutomatonAsked flags given rules load a → Seeks load (sought_of a)
+  sought_by None a h =
+      let kind = kind_asked flags in
+      let folds = asks IgnoreCase flags in
+      let held : dictionary_of a ≡ dictionary kind (texts_as_read folds h.0) = λ i w. h.2.holds w i in
+      let holds : dictionary_of a ≡ dictionary_asked flags rules = held ∙ ap (λ l. dictionary kind (texts_as_read folds l)) (numbered_of 0 (map (pattern_of (asks Values flags)) rules) h.0 h.1) in
+      record { patterns = dictionary_asked flags rules; are_sought = refl; is = λ i. record { dictionary = holds i; folds = h.2.folds i; kind = h.2.kind i } }
+  sought_by (Some name) a h =
+      record { patterns = dictionary_of a; are_sought = (a, h, refl); is = λ i. record { dictionary = dictionary_of a; folds = h.fits.folds i; kind = h.fits.kind i } }
 
-module _ {E : Type 0} (asked : Asked) (given : Files) (a b : Option (List ℕ)) (f g : ℕ) where
+stores_none : (old : Option (List SavedFile)) → Stores old old []
+stores_none None = refl
+stores_none (Some files) = ap Some (sym (append-nil files))
+
+module _ {E : Type 0} (asked : Asked) (given : Files) (a b : Option (List ℕ)) (f g : ℕ) (c : Option (List SavedFile)) where
   -- the usage or the version was told
-  pub ends_told : (r : Result ℕ E) (text : List ℕ) → tells_of_itself asked ≡ true → IsWritten {T = ℕ} {E = E} a b f g r text → IfOk r (λ s. s ≡ 0) → Ends asked given a b f g r
-  ends_told (Ok s) text t w e = record { text = text; is_answer = inl (t, e); written = w.whole; unfailed = w.unfailed }
-  ends_told (Err x) text t w e = inr (record { text = text; status = 0; is_answer = inl (t, refl); written = w.beginning; failed = w.failed })
+  pub ends_told : (r : Result ℕ E) (text : List ℕ) → tells_of_itself asked ≡ true → IsWritten {T = ℕ} {E = E} a b f g r text → IfOk r (λ s. s ≡ 0) → Ends asked given a b f g c c r
+  ends_told (Ok s) text t w e = record { text = text; saved = []; is_answer = inl (t, refl, e); written = w.whole; stored = stores_none c; unfailed = w.unfailed }
+  ends_told (Err x) text t w e = inr (record { text = text; status = 0; is_answer = inl (t, refl, refl); written = w.beginning; kept = refl; failed = w.failed })
 
-  -- the files were searched
-  pub ends_searched : (s : Automaton ℕ) (r : Result ℕ E) → tells_of_itself asked ≡ false → IsForPatterns asked given s → IsSearched (dictionary_of s) s.folds asked given {E = E} a b f g r → Ends asked given a b f g r
-  ends_searched s (Ok n) t p h = record {
-    text = files_text (dictionary_of s) s.folds (task_of asked) h.files;
-    is_answer = inr (t, subst (IsSearch asked given (files_text (dictionary_of s) s.folds (task_of asked) h.files)) (sym h.status) (search_of asked given s h.files p h.are_files));
-    written = h.written.whole;
-    unfailed = h.written.unfailed;
-  }
-  ends_searched s (Err x) t p h = inr (record {
-    text = files_text (dictionary_of s) s.folds (task_of asked) h.files;
-    status = status_of_outcome (asks Quiet asked.flags) (outcome_of (dictionary_of s) s.folds (task_of asked) h.files);
-    is_answer = inr (t, search_of asked given s h.files p h.are_files);
-    written = h.written.beginning;
-    failed = h.written.failed;
-  })
+module _ (asked : Asked) (given : Files) (text : List ℕ) (gives : GivesPatterns asked given text) (named : names_patterns asked ≡ true) (told : tells_of_itself asked ≡ false) where
+  module _ (nothing : last_of asked.saves ≡ None) (K : Dictionary ℕ) (sought : AreSought asked.flags given (rules_asked asked gives.files) (last_of asked.loads) K) where
+    abbrev Text : List GivenFile → List ℕ
+    Text files = files_text (sought_asked asked.flags K) (rules_asked asked gives.files) (task_of asked) files
 
-module _ {E : Type 0} (K : Dictionary ℕ) (folds : Bool) (asked : Asked) (given : Files) (task : Task) (names : List (List ℕ)) (is_task : task ≡ task_of asked) (are_names : names ≡ names_asked asked.files) (a b : Option (List ℕ)) (f g : ℕ) where
+    abbrev Status : List GivenFile → ℕ
+    Status files = status_of_outcome (asks Quiet asked.flags) (outcome_of (sought_asked asked.flags K) (task_of asked) files)
+
+    found : (files : List GivenFile) → AreFilesOf given (names_asked asked.files) files → IsAnswer asked given (Text files) [] (Status files)
+    found files are =
+        let work : IsSearch asked given (Text files) (Status files) = record {
+          pattern_files = gives.files;
+          are_pattern_files = gives.are_files;
+          are_read = gives.are_read;
+          named = named;
+          patterns = K;
+          are_sought = sought;
+          files = files;
+          are_files = are;
+          text_is = refl;
+          status_is = refl;
+        } in
+        inr (told, subst (λ l. IsWork asked given l (Text files) [] (Status files)) (sym nothing) (work, refl))
+
+    ends_found : {E : Type 0} (a b : Option (List ℕ)) (f g : ℕ) (c : Option (List SavedFile)) (r : Result ℕ E) → IsSearched (sought_asked asked.flags K) (rules_asked asked gives.files) asked given {E = E} a b f g r → Ends asked given a b f g c c r
+    ends_found a b f g c (Ok n) h = record {
+      text = Text h.files;
+      saved = [];
+      is_answer = subst (IsAnswer asked given (Text h.files) []) (sym h.status) (found h.files h.are_files);
+      written = h.written.whole;
+      stored = stores_none c;
+      unfailed = h.written.unfailed;
+    }
+    ends_found a b f g c (Err x) h = inr (record {
+      text = Text h.files;
+      status = Status h.files;
+      is_answer = found h.files h.are_files;
+      written = h.written.beginning;
+      kept = refl;
+      failed = h.written.failed;
+    })
+
+  module _ (rules : List (List ℕ)) (are_rules : rules ≡ rules_asked asked gives.files) (automaton : Automaton ℕ) (is_asked : IsAutomatonAsked asked.flags given rules (last_of asked.loads) automaton) where
+    -- the files were searched
+    pub ends_searched : {E : Type 0} (a b : Option (List ℕ)) (f g : ℕ) (c : Option (List SavedFile)) (r : Result ℕ E) → last_of asked.saves ≡ None → IsSearched (sought_of automaton) rules asked given {E = E} a b f g r → Ends asked given a b f g c c r
+    ends_searched {E} a b f g c r nothing h =
+        let read = rules_asked asked gives.files in
+        let s = sought_by asked.flags given read (last_of asked.loads) automaton (subst (λ l. IsAutomatonAsked asked.flags given l (last_of asked.loads) automaton) are_rules is_asked) in
+        let here = subst (λ l. IsSearched (sought_of automaton) l asked given {E = E} a b f g r) are_rules h in
+        ends_found nothing s.patterns s.are_sought a b f g c r (subst (λ t. IsSearched t read asked given {E = E} a b f g r) s.is here)
+
+-- the automaton was saved
+pub ends_saved : {E : Type 0} (asked : Asked) (given : Files) (a : Option (List ℕ)) (f : ℕ) (c d : Option (List SavedFile)) (text : List ℕ) (gives : GivesPatterns asked given text) (rules : List (List ℕ)) (automaton : Automaton ℕ) (name : List ℕ) (r : Result ℕ E)
+    → names_patterns asked ≡ true → tells_of_itself asked ≡ false → rules ≡ rules_asked asked gives.files → IsAutomatonAsked asked.flags given rules (last_of asked.loads) automaton → last_of asked.saves ≡ Some name
+    → IfOk r (λ s. s ≡ 0) → OnOk r (IsAutomaton (λ v. v < 2 ^ 32) automaton) → OnOk r (Stores c d (record { name = name; bytes = written_form (number_form w32) automaton } ∷ [])) → OnErr r (d ≡ c) → Ends asked given a a f f c d r
+ends_saved asked given a f c d text gives rules automaton name (Ok n) named told are_rules is_asked is zero_is is_one stored kept =
+    let bytes = written_form (number_form w32) automaton in
+    let file : SavedFile = record { name = name; bytes = bytes } in
+    let save : IsSave asked given bytes = record {
+      pattern_files = gives.files;
+      are_pattern_files = gives.are_files;
+      are_read = gives.are_read;
+      named = named;
+      automaton = automaton;
+      is_asked = subst (λ l. IsAutomatonAsked asked.flags given l (last_of asked.loads) automaton) are_rules is_asked;
+      is_one = is_one;
+      form = refl;
+    } in
+    record {
+      text = [];
+      saved = file ∷ [];
+      is_answer = inr (told, subst (λ l. IsWork asked given l [] (file ∷ []) n) (sym is) (refl, zero_is, (bytes, save, refl)));
+      written = Appends-nil a;
+      stored = stored;
+      unfailed = refl;
+    }
+ends_saved asked given a f c d text gives rules automaton name (Err e) named told are_rules is_asked is zero_is is_one stored kept = inl (Keeps-refl a, refl, kept)
+
+module _ {E : Type 0} (s : Sought) (rules : List (List ℕ)) (asked : Asked) (given : Files) (task : Task) (names : List (List ℕ)) (is_task : task ≡ task_of asked) (are_names : names ≡ names_asked asked.files) (a b : Option (List ℕ)) (f g : ℕ) where
   -- a search as it was asked for
-  as_asked : (r : Result Outcome E) → AreSearched K folds task given names {E = E} a b f g r → AreSearched K folds (task_of asked) given (names_asked asked.files) {E = E} a b f g r
-  as_asked r w = subst (λ t. AreSearched K folds t given (names_asked asked.files) {E = E} a b f g r) is_task (subst (λ ns. AreSearched K folds task given ns {E = E} a b f g r) are_names w)
+  as_asked : (r : Result Outcome E) → AreSearched s rules task given names {E = E} a b f g r → AreSearched s rules (task_of asked) given (names_asked asked.files) {E = E} a b f g r
+  as_asked r w = subst (λ t. AreSearched s rules t given (names_asked asked.files) {E = E} a b f g r) is_task (subst (λ ns. AreSearched s rules task given ns {E = E} a b f g r) are_names w)
 
   -- it failed; or it ended, and the flush failed; or both did their work
-  pub search_failed : {F : Type 0} (e : E) (x : F) → AreSearched K folds task given names {E = E} a b f g (Err e) → IsSearched K folds asked given {E = F} a b f g (Err x)
+  pub search_failed : {F : Type 0} (e : E) (x : F) → AreSearched s rules task given names {E = E} a b f g (Err e) → IsSearched s rules asked given {E = F} a b f g (Err x)
   search_failed {F} e x w =
       let v = as_asked (Err e) w in
       record { files = v.files; are_files = v.are_files; written = record { whole = tt; unfailed = tt; beginning = v.written.beginning; failed = v.written.failed }; status = tt }
 
-  pub search_unflushed : {F : Type 0} (c : Option (List ℕ)) (h : ℕ) (o : Outcome) (x : F) → AreSearched K folds task given names {E = E} a b f g (Ok o) → Keeps b c → h ≡ g + 1 → IsSearched K folds asked given {E = F} a c f h (Err x)
+  pub search_unflushed : {F : Type 0} (c : Option (List ℕ)) (h : ℕ) (o : Outcome) (x : F) → AreSearched s rules task given names {E = E} a b f g (Ok o) → Keeps b c → h ≡ g + 1 → IsSearched s rules asked given {E = F} a c f h (Err x)
   search_unflushed {F} c h o x w kept more =
       let v = as_asked (Ok o) w in
       record { files = v.files; are_files = v.are_files; written = unflushed {T = Outcome} {U = ℕ} {E = E} {F = F} a b c f g h _ o x v.written kept more; status = tt }
 
-  pub search_done : {F : Type 0} (c : Option (List ℕ)) (h : ℕ) (o : Outcome) (quiet : Bool) (n : ℕ) → AreSearched K folds task given names {E = E} a b f g (Ok o) → Keeps b c → h ≡ g → quiet ≡ asks Quiet asked.flags → n ≡ status_of_outcome quiet o
-      → IsSearched K folds asked given {E = F} a c f h (Ok n)
+  pub search_done : {F : Type 0} (c : Option (List ℕ)) (h : ℕ) (o : Outcome) (quiet : Bool) (n : ℕ) → AreSearched s rules task given names {E = E} a b f g (Ok o) → Keeps b c → h ≡ g → quiet ≡ asks Quiet asked.flags → n ≡ status_of_outcome quiet o
+      → IsSearched s rules asked given {E = F} a c f h (Ok n)
   search_done {F} c h o quiet n w kept same is_quiet is =
       let v = as_asked (Ok o) w in
       record {
@@ -208,11 +263,11 @@ module _ {E : Type 0} (K : Dictionary ℕ) (folds : Bool) (asked : Asked) (given
       }
 
 -- how an attempt ends tells what its status says
-pub ends_by : {E : Type 0} (words : List (List ℕ)) (asked : Asked) (given : Files) (a b : Option (List ℕ)) (f g : ℕ) (r : Result ℕ E) → AreKnown (requests Any words) → asked ≡ options_of (requests Any words)
-    → Ends asked given a b f g r → EndsBy words given a b f g (status_of r)
-ends_by {E} words asked given a b f g (Ok n) known is h = inl (known, subst (λ o. Ends o given a b f g {E = E} (Ok n)) is h)
-ends_by {E} words asked given a b f g (Err x) known is (inl kept) = inr (refl, inl kept)
-ends_by {E} words asked given a b f g (Err x) known is (inr cut) = inr (refl, inr (known, subst (λ o. IsCutOff o given a b f g) is cut))
+pub ends_by : {E : Type 0} (words : List (List ℕ)) (asked : Asked) (given : Files) (a b : Option (List ℕ)) (f g : ℕ) (c d : Option (List SavedFile)) (r : Result ℕ E) → CanBeMet (requests Any words) → asked ≡ options_of (requests Any words)
+    → Ends asked given a b f g c d r → EndsBy words given a b f g c d (status_of r)
+ends_by {E} words asked given a b f g c d (Ok n) met is h = inl (met, subst (λ o. Ends o given a b f g c d {E = E} (Ok n)) is h)
+ends_by {E} words asked given a b f g c d (Err x) met is (inl kept) = inr (refl, inl kept)
+ends_by {E} words asked given a b f g c d (Err x) met is (inr cut) = inr (refl, inr (met, subst (λ o. IsCutOff o given a b f g c d) is cut))
 
 module _ (texts : List (Bor (List ℕ))) (i : ℕ) (d : Bor (List ℕ)) (h : i < length texts) where
   -- one name more
@@ -252,17 +307,17 @@ or_false : (b : Bool) → (b || false) ≡ b
 or_false true = refl
 or_false false = refl
 
-module _ (K : Dictionary ℕ) (folds : Bool) (task : Task) (given : Files) where
+module _ (s : Sought) (rules : List (List ℕ)) (task : Task) (given : Files) where
   -- no file was searched
-  pub searched_none : {E : Type 0} (a : Option (List ℕ)) (f : ℕ) → AreSearched K folds task given [] {E = E} a a f f (Ok (record { selected = false; trouble = false }))
+  pub searched_none : {E : Type 0} (a : Option (List ℕ)) (f : ℕ) → AreSearched s rules task given [] {E = E} a a f f (Ok (record { selected = false; trouble = false }))
   searched_none a f = record { files = []; are_files = files_none given; written = record { whole = Appends-nil a; unfailed = refl; beginning = tt; failed = tt }; outcome = refl }
 
   -- one file was searched: writing failed, or did not
   module _ (a b : Option (List ℕ)) (f g : ℕ) (name bytes : List ℕ) (n t : List ℕ) (told : Tells given name (Some bytes)) (named : n ≡ shown name) (read : t ≡ bytes) where
-    text_one : file_text K folds task n t ≡ files_text K folds task (record { name = name; bytes = Some bytes } ∷ [])
-    text_one = ap (λ m. file_text K folds task m t) named ∙ ap (file_text K folds task (shown name)) read ∙ sym (append-nil (file_text K folds task (shown name) bytes))
+    text_one : file_text s rules task n t ≡ files_text s rules task (record { name = name; bytes = Some bytes } ∷ [])
+    text_one = ap (λ m. file_text s rules task m t) named ∙ ap (file_text s rules task (shown name)) read ∙ sym (append-nil (file_text s rules task (shown name) bytes))
 
-    pub one_failed : {E T D : Type 0} (d : D) (e : E) → IsWritten {T = T} {E = D} a b f g (Err d) (file_text K folds task n t) → AreSearched K folds task given (name ∷ []) {E = E} a b f g (Err e)
+    pub one_failed : {E T D : Type 0} (d : D) (e : E) → IsWritten {T = T} {E = D} a b f g (Err d) (file_text s rules task n t) → AreSearched s rules task given (name ∷ []) {E = E} a b f g (Err e)
     one_failed d e w = record {
       files = record { name = name; bytes = Some bytes } ∷ [];
       are_files = file_one given name (Some bytes) told;
@@ -270,17 +325,17 @@ module _ (K : Dictionary ℕ) (folds : Bool) (task : Task) (given : Files) where
       outcome = tt;
     }
 
-    pub one_searched : {E : Type 0} (s : Bool) → IsWritten {T = Bool} {E = E} a b f g (Ok s) (file_text K folds task n t) → s ≡ selects_of K folds task (record { name = name; bytes = Some t })
-        → AreSearched K folds task given (name ∷ []) {E = E} a b f g (Ok (record { selected = s; trouble = false }))
-    one_searched s w is = record {
+    pub one_searched : {E : Type 0} (x : Bool) → IsWritten {T = Bool} {E = E} a b f g (Ok x) (file_text s rules task n t) → x ≡ selects_of s task (record { name = name; bytes = Some t })
+        → AreSearched s rules task given (name ∷ []) {E = E} a b f g (Ok (record { selected = x; trouble = false }))
+    one_searched x w is = record {
       files = record { name = name; bytes = Some bytes } ∷ [];
       are_files = file_one given name (Some bytes) told;
       written = record { whole = subst (Appends a b) text_one w.whole; unfailed = w.unfailed; beginning = tt; failed = tt };
-      outcome = ap (λ x. record { selected = x; trouble = false }) (is ∙ ap (λ x. selects_of K folds task (record { name = name; bytes = Some x })) read ∙ sym (or_false (selects_of K folds task (record { name = name; bytes = Some bytes }))));
+      outcome = ap (λ b. record { selected = b; trouble = false }) (is ∙ ap (λ b. selects_of s task (record { name = name; bytes = Some b })) read ∙ sym (or_false (selects_of s task (record { name = name; bytes = Some bytes }))));
     }
 
   -- a file could not be read
-  pub one_unread : {E : Type 0} (a : Option (List ℕ)) (f : ℕ) (name : List ℕ) → Tells given name None → AreSearched K folds task given (name ∷ []) {E = E} a a f f (Ok (record { selected = false; trouble = true }))
+  pub one_unread : {E : Type 0} (a : Option (List ℕ)) (f : ℕ) (name : List ℕ) → Tells given name None → AreSearched s rules task given (name ∷ []) {E = E} a a f f (Ok (record { selected = false; trouble = true }))
   one_unread a f name told = record {
     files = record { name = name; bytes = None } ∷ [];
     are_files = file_one given name None told;

@@ -6,7 +6,7 @@ use Rattle.std.proofs.lemmas.List.Sums.{fails_before_first, prefix_len-le-length
 use Rattle.std.proofs.lemmas.Bool.Decides.{nat_tests}
 use Rattle.std.specs.List.{position, position_or_len, slice_split}
 use Rattle.daachorse_model.specs.Program.{without_empty_end}
-use Rattle.daacgrep_command.specs.Lines.{TextLine, lines_from, pieces_of}
+use Rattle.daacgrep_command.specs.Lines.{lines_from, pieces_of}
 
 -- a piece before another stays
 pub first_stays : (piece : List ℕ) (pieces : List (List ℕ)) → 0 < length pieces → without_empty_end (piece ∷ pieces) ≡ piece ∷ without_empty_end pieces
@@ -63,3 +63,8 @@ pub place_missing : (p : ℕ → Bool) (text : List ℕ) → None ≡ position p
 place_missing p text h =
     let above : length text ≤ position_or_len p text = by_none (position_or_len p text) (length text) _ refl h in
     omega (arith, prefix_len-le-length (λ x. not (p x)) text)
+
+-- the place behind the first line and its mark, or the end
+pub behind_mark : (p : ℕ → Bool) (text : List ℕ) (len end : ℕ) → len ≡ position_or_len p text → ((len < length text) × (end ≡ len + 1)) ⊎ ((length text ≤ len) × (end ≡ len)) → drop end text ≡ drop (position_or_len p text + 1) text
+behind_mark p text len end is (inl h) = ap (λ n. drop n text) (h.1 ∙ ap (λ n. n + 1) is)
+behind_mark p text len end is (inr h) = drop_all end text (omega arith) ∙ sym (drop_all (position_or_len p text + 1) text (omega arith))

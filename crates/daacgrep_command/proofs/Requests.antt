@@ -1,32 +1,36 @@
 -- What is taken of requests one after the other is taken of all of them.
-use Rattle.std.proofs.Common.{ℕ, ◌+◌, ◌<◌, ◌≤◌, map, length, take, drop, get_or, drop-cons, add-one, ◌≡◌, ◌||◌, Bool, true, false, List, [], ◌∷◌, ◌++◌, Result, Ok, Err, refl, sym, ap, ◌∙◌, append_assoc, append-nil}
+use Rattle.std.proofs.Common.{ℕ, ◌+◌, ◌<◌, ◌≤◌, map, length, take, drop, get_or, drop-cons, add-one, ◌≡◌, ◌||◌, List, [], ◌∷◌, ◌++◌, Result, Ok, Err, sym, ap, ◌∙◌, append_assoc, append-nil}
 use Rattle.std.proofs.lemmas.List.{drop_all, map-append, take_more}
 use Rattle.std.proofs.lemmas.List.Elements.{Contains-append_left, Contains-append_right, filter_map-append}
 use Rattle.std.proofs.lemmas.List.Folds.{list_any-append}
 use Rattle.std.specs.Borrow.{Bor}
-use Rattle.std.specs.List.{Contains, filter_map, list_any}
+use Rattle.std.specs.List.{list_any}
 use Rattle.daacgrep_command.specs.declared.options.OptionError.{OptionError}
-use Rattle.daacgrep_command.specs.declared.options.OptionError.TheVariants.{Unknown, Missing, OutOfMemory}
+use Rattle.daacgrep_command.specs.declared.options.OptionError.TheVariants.{Unknown, Missing, Clashing, OutOfMemory}
 use Rattle.daacgrep_command.specs.declared.options.Role.{Role}
 use Rattle.daacgrep_command.specs.Flags.{flag_of}
-use Rattle.daacgrep_command.specs.Options.{asked_by, flag_or_unknown, letters_ask, requests, role_after, unmet, Asked, AreKnown, IsCause, Request, Takes, file_in, flag_in, is_wrong, joined, options_of, pattern_file_in, pattern_in}
+use Rattle.daacgrep_command.specs.Options.{asked_by, flag_or_unknown, letters_ask, requests, role_after, unmet, Asked, AreKnown, IsCause, Request, Takes, file_in, flag_in, is_wrong, joined, options_of, loaded_in, pattern_file_in, pattern_in, saved_in}
 
 pub options_of-append : (rs ss : List Request) → options_of (rs ++ ss) ≡ joined (options_of rs) (options_of ss)
 options_of-append rs ss =
     let a = filter_map-append flag_in rs ss in
     let b = filter_map-append pattern_in rs ss in
     let c = filter_map-append pattern_file_in rs ss in
-    let d = filter_map-append file_in rs ss in cc
+    let d = filter_map-append saved_in rs ss in
+    let e = filter_map-append loaded_in rs ss in
+    let f = filter_map-append file_in rs ss in cc
 
 pub joined-assoc : (a b c : Asked) → joined (joined a b) c ≡ joined a (joined b c)
 joined-assoc a b c =
     let p = append_assoc a.flags b.flags c.flags in
     let q = append_assoc a.patterns b.patterns c.patterns in
     let r = append_assoc a.pattern_files b.pattern_files c.pattern_files in
-    let s = append_assoc a.files b.files c.files in cc
+    let s = append_assoc a.saves b.saves c.saves in
+    let t = append_assoc a.loads b.loads c.loads in
+    let u = append_assoc a.files b.files c.files in cc
 
 pub joined-none : (a : Asked) → joined a (options_of []) ≡ a
-joined-none a = λ i. record { flags = append-nil a.flags i; patterns = append-nil a.patterns i; pattern_files = append-nil a.pattern_files i; files = append-nil a.files i }
+joined-none a = λ i. record { flags = append-nil a.flags i; patterns = append-nil a.patterns i; pattern_files = append-nil a.pattern_files i; saves = append-nil a.saves i; loads = append-nil a.loads i; files = append-nil a.files i }
 
 pub AreKnown-append : (rs ss : List Request) → AreKnown rs → AreKnown ss → AreKnown (rs ++ ss)
 AreKnown-append rs ss p q = list_any-append is_wrong rs ss ∙ (ap (λ b. b || list_any is_wrong ss) p ∙ q)
@@ -34,11 +38,13 @@ AreKnown-append rs ss p q = list_any-append is_wrong rs ss ∙ (ap (λ b. b || l
 pub IsCause-left : (e : OptionError) (rs ss : List Request) → IsCause e rs → IsCause e (rs ++ ss)
 IsCause-left (Unknown word) rs ss h = Contains-append_left rs ss _ h
 IsCause-left (Missing option) rs ss h = Contains-append_left rs ss _ h
+IsCause-left (Clashing clash) rs ss h = h
 IsCause-left (OutOfMemory e) rs ss h = tt
 
 pub IsCause-right : (e : OptionError) (rs ss : List Request) → IsCause e ss → IsCause e (rs ++ ss)
 IsCause-right (Unknown word) rs ss h = Contains-append_right rs ss _ h
 IsCause-right (Missing option) rs ss h = Contains-append_right rs ss _ h
+IsCause-right (Clashing clash) rs ss h = h
 IsCause-right (OutOfMemory e) rs ss h = tt
 
 module _ {T : Type 0} where

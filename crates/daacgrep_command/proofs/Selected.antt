@@ -1,21 +1,25 @@
 -- What is left of a text that is written item by item; a match lies within its line; and a text has no more lines than bytes.
-use Rattle.std.proofs.Common.{◌≡◌, ℕ, zero, suc, ◌+◌, ◌<◌, ◌≤◌, ◌==◌, Bool, true, false, IsTrue, ◌↔◌, ◌≢◌, cond, nat_lt, zero-add, ◌||◌, List, [], ◌∷◌, ◌++◌, length, length-append, refl, sym, ap, ◌∙◌, subst, append_assoc, append-nil, arith}
+use Rattle.std.proofs.Common.{◌≡◌, ℕ, suc, ◌+◌, ◌<◌, ◌≤◌, ◌==◌, ◌⊎◌, inl, inr, Bool, true, false, IsTrue, ◌↔◌, ◌≢◌, cond, nat_lt, zero-add, ◌||◌, List, [], ◌∷◌, ◌++◌, length, length-append, refl, sym, ap, ◌∙◌, subst, append_assoc, append-nil, arith}
 use Rattle.std.proofs.lemmas.List.Splits.{length-slice_split}
 use Rattle.std.proofs.lemmas.Bool.{lt-ltb}
 use Rattle.std.proofs.lemmas.List.Sums.{sum_by-cons}
-use Rattle.std.specs.List.{All, count_by, flat_map, list_any, onto_first, slice_index_or, slice_split}
+use Rattle.std.specs.List.{All, count_by, flat_map, list_any, onto_first, slice_split}
 use Rattle.daachorse_model.specs.declared.Match.{Match}
 use Rattle.daachorse_model.specs.Dictionary.{Dictionary}
 use Rattle.daachorse_model.specs.Folding.{as_read}
 use Rattle.daachorse_model.specs.Laws.{IsOccurrence}
+use Rattle.daachorse_model.specs.declared.MatchKind.{MatchKind}
+use Rattle.daachorse_model.specs.declared.MatchKind.TheVariants.{Standard, LeftmostLongest, LeftmostFirst}
 use Rattle.daachorse_model.specs.Leftmost.{leftmost}
 use Rattle.daachorse_model.specs.Program.{without_empty_end}
 use Rattle.daachorse_model.specs.Units.{byte_width}
 use Rattle.daachorse_model.proofs.Find.{leftmost_occur}
 use Rattle.daachorse_model.proofs.FoldLaws.{length-as_read}
+use Rattle.daachorse_model.proofs.Occur.{overlapping_occur}
 use Rattle.daachorse_model.proofs.Suffixes.{size-bytes}
-use Rattle.daacgrep_command.specs.Lines.{TextLine, lines_from, lines_of, pieces_of}
+use Rattle.daacgrep_command.specs.Lines.{lines_from, lines_of, pieces_of}
 use Rattle.daacgrep_command.specs.Printed.{has_any}
+use Rattle.daacgrep_command.specs.Sought.{Sought, matches_by, matches_in}
 use Rattle.daacgrep_command.proofs.Cuts.{first_stays}
 
 module _ {X : Type 0} (f : X → List ℕ) where
@@ -35,24 +39,34 @@ pub record Fits (line : List ℕ) (m : Match ℕ) : Type 0 where
   pub ordered : m.start ≤ m.end
   pub within : m.end ≤ length line
 
-module _ (K : Dictionary ℕ) where
-  occurrence_fits : (h : List ℕ) (m : Match ℕ) → IsOccurrence byte_width K h m → Fits h m
-  occurrence_fits h m o =
-      let before = size-bytes o.before in
-      let key = size-bytes o.key in
-      let inner = length-append o.key o.after in
-      let outer = ap length o.splits ∙ length-append o.before _ in
-      record { ordered = omega (arith, o.starts, o.ends); within = omega (arith, o.starts, o.ends, before, key, inner, outer) }
+occurrence_fits : (K : Dictionary ℕ) (h : List ℕ) (m : Match ℕ) → IsOccurrence byte_width K h m → Fits h m
+occurrence_fits K h m o =
+    let before = size-bytes o.before in
+    let key = size-bytes o.key in
+    let inner = length-append o.key o.after in
+    let outer = ap length o.splits ∙ length-append o.before _ in
+    record { ordered = omega (arith, o.starts, o.ends); within = omega (arith, o.starts, o.ends, before, key, inner, outer) }
 
-  at_split : (P : Match ℕ → Type 0) (xs : List (Match ℕ)) (m : Match ℕ) (ms : List (Match ℕ)) → All P (xs ++ m ∷ ms) → P m
-  at_split P [] m ms all = all 0 m (omega arith)
-  at_split P (x ∷ xs) m ms all = at_split P xs m ms (λ k d lt. all (suc k) d (omega arith))
+at_split : (P : Match ℕ → Type 0) (xs : List (Match ℕ)) (m : Match ℕ) (ms : List (Match ℕ)) → All P (xs ++ m ∷ ms) → P m
+at_split P [] m ms all = all 0 m (omega arith)
+at_split P (x ∷ xs) m ms all = at_split P xs m ms (λ k d lt. all (suc k) d (omega arith))
 
-  pub match_fits : (folds : Bool) (line : List ℕ) (xs : List (Match ℕ)) (m : Match ℕ) (ms : List (Match ℕ)) → leftmost byte_width K (as_read folds line) ≡ xs ++ m ∷ ms → Fits line m
-  match_fits folds line xs m ms is =
-      let occurs = at_split (IsOccurrence byte_width K (as_read folds line)) xs m ms (subst (All (IsOccurrence byte_width K (as_read folds line))) is (leftmost_occur byte_width K (as_read folds line))) in
-      let fits = occurrence_fits (as_read folds line) m occurs in
-      record { ordered = fits.ordered; within = omega (arith, fits.within, length-as_read folds line) }
+-- leftmost matches are those of each kind that has them
+pub leftmost_named : (asked kind : MatchKind) (K : Dictionary ℕ) (h : List ℕ) → (asked ≡ LeftmostLongest) ⊎ (asked ≡ LeftmostFirst) → asked ≡ kind → leftmost byte_width K h ≡ matches_by kind K h
+leftmost_named asked kind K h (inl is) same = ap (λ k. matches_by k K h) (sym is ∙ same)
+leftmost_named asked kind K h (inr is) same = ap (λ k. matches_by k K h) (sym is ∙ same)
+
+matches_occur : (kind : MatchKind) (K : Dictionary ℕ) (h : List ℕ) → All (IsOccurrence byte_width K h) (matches_by kind K h)
+matches_occur Standard K h = overlapping_occur byte_width K h
+matches_occur LeftmostLongest K h = leftmost_occur byte_width K h
+matches_occur LeftmostFirst K h = leftmost_occur byte_width K h
+
+pub match_fits : (s : Sought) (line : List ℕ) (xs : List (Match ℕ)) (m : Match ℕ) (ms : List (Match ℕ)) → matches_in s line ≡ xs ++ m ∷ ms → Fits line m
+match_fits s line xs m ms is =
+    let P = IsOccurrence byte_width s.dictionary (as_read s.folds line) in
+    let occurs = at_split P xs m ms (subst (All P) is (matches_occur s.kind s.dictionary (as_read s.folds line))) in
+    let fits = occurrence_fits s.dictionary (as_read s.folds line) m occurs in
+    record { ordered = fits.ordered; within = omega (arith, fits.within, length-as_read s.folds line) }
 
 length-lines_from : (before start : ℕ) (pieces : List (List ℕ)) → length (lines_from before start pieces) ≡ length pieces
 length-lines_from before start [] = refl

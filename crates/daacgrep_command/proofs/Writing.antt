@@ -1,11 +1,12 @@
 -- What a sink took of texts that were written one after the other.
-use Rattle.std.proofs.Common.{◌≡◌, ℕ, ◌+◌, List, ◌++◌, Option, Result, Ok, Err, [], ap, sym, subst, ◌∙◌, append_assoc, append-nil}
-use Rattle.std.specs.Prelude.{OnOk, OnErr}
+use Rattle.std.proofs.Common.{◌≡◌, ℕ, ◌+◌, ◌==◌, Bool, true, false, cond, List, ◌++◌, ◌∷◌, Option, Result, Ok, Err, [], refl, ap, sym, subst, ◌∙◌, append_assoc, append-nil}
 use Rattle.std.specs.Io.KnownBytes.{Appends, Keeps}
 use Rattle.std.proofs.KnownBytes.{Appends-kept, Appends-trans}
 use Rattle.daachorse_bytewise.specs.Replaced.{AppendsBeginning}
 use Rattle.daachorse_bytewise.proofs.Sending.{AppendsBeginning-behind, AppendsBeginning-more}
 use Rattle.daacfind_command.specs.Runs.{IsWritten}
+use Rattle.daacgrep_command.specs.declared.printing.Labels.{Labels}
+use Rattle.daacgrep_command.specs.Fields.{entry, name_field, number_field}
 
 module _ {U E : Type 0} where
   -- more after a text that was written whole
@@ -42,3 +43,20 @@ module _ {T U E F : Type 0} (a b c : Option (List ℕ)) (f g h : ℕ) (t : List 
 
   pub unflushed : (x : T) (y : F) → IsWritten {T = T} {E = E} a b f g (Ok x) t → Keeps b c → h ≡ g + 1 → IsWritten {T = U} {E = F} a c f h (Err y) t
   unflushed x y w kept more = record { whole = tt; unfailed = tt; beginning = (t, [], sym (append-nil t), Appends-kept a b c t w.whole kept); failed = more ∙ ap (λ n. n + 1) w.unfailed }
+
+value_wanted : (b : Bool) (v : List ℕ) → name_field b (cond b v []) ≡ name_field b v
+value_wanted true v = refl
+value_wanted false v = refl
+
+entry_value : (labels : Labels) (name : List ℕ) (number place : ℕ) (v w text : List ℕ) → w ≡ cond labels.values v [] → entry labels name number place w text ≡ entry labels name number place v text
+entry_value labels name number place v w text e =
+    ap (λ x. name_field labels.names name ++ (number_field labels.numbers number ++ (number_field labels.places place ++ (x ++ (text ++ labels.end ∷ []))))) (ap (name_field labels.values) e ∙ value_wanted labels.values v)
+
+-- a value that is not wanted may be any
+pub written_value : {T E : Type 0} (a b : Option (List ℕ)) (f g : ℕ) (r : Result T E) (labels : Labels) (name : List ℕ) (number place : ℕ) (v w text : List ℕ) → w ≡ cond labels.values v [] → IsWritten a b f g r (entry labels name number place w text)
+    → IsWritten a b f g r (entry labels name number place v text)
+written_value a b f g r labels name number place v w text e h = subst (IsWritten a b f g r) (entry_value labels name number place v w text e) h
+
+-- what is written where two numbers differ
+pub part_written : {T E : Type 0} (a b : Option (List ℕ)) (f g : ℕ) (r : Result T E) (m n : ℕ) (t : List ℕ) → (m == n) ≡ false → IsWritten a b f g r t → IsWritten a b f g r (cond (m == n) [] t)
+part_written a b f g r m n t e h = subst (λ x. IsWritten a b f g r (cond x [] t)) (sym e) h

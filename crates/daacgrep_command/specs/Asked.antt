@@ -1,20 +1,25 @@
 -- What the words of a command line and the files that they name come to: a text, and a status.
-use Rattle.std.specs.Prelude.{◌≡◌, ◌⊎◌, ◌+◌, ◌-◌, ◌<◌, ◌==◌, ◌&&◌, ◌||◌, Bool, true, false, not, nat_lt, ℕ, List, [], ◌∷◌, ◌++◌, Option, Some, None, Result, Ok, Err, All, codes, flat_map, is_none, length, map, slice_index, unwrap_or, if◌then◌else◌, IfOk}
+use Rattle.std.specs.Prelude.{◌≡◌, ◌⊎◌, ◌+◌, ◌-◌, ◌<◌, ◌^◌, ◌==◌, ◌&&◌, ◌||◌, Bool, true, false, not, nat_lt, ℕ, List, [], ◌∷◌, ◌++◌, Option, Some, None, Result, Ok, Err, All, codes, flat_map, is_none, is_some, length, map, slice_index, unwrap_or, if◌then◌else◌, IfOk}
+use Rattle.std.specs.Int.{w32}
 use Rattle.std.specs.Option.{option_map}
 use Rattle.std.specs.Io.KnownBytes.{Appends, Keeps}
 use Rattle.std.specs.List.{list_any}
 use Rattle.daachorse_model.specs.declared.MatchKind.{MatchKind}
-use Rattle.daachorse_model.specs.declared.MatchKind.TheVariants.{LeftmostLongest, LeftmostFirst}
+use Rattle.daachorse_model.specs.declared.MatchKind.TheVariants.{Standard, LeftmostLongest, LeftmostFirst}
 use Rattle.daachorse_model.specs.Dictionary.{Dictionary, dictionary}
 use Rattle.daachorse_model.specs.Folding.{texts_as_read}
 use Rattle.daachorse_model.specs.Program.{pattern_lines, with_numbers}
 use Rattle.daachorse_model.specs.Units.{same_text}
-use Rattle.daachorse_bytewise.specs.Automata.{Automaton, dictionary_of}
+use Rattle.daachorse_bytewise.specs.Automata.{Automaton, dictionary_of, kind_of}
+use Rattle.daachorse_bytewise.specs.Building.{IsBuiltOf}
+use Rattle.daachorse_bytewise.specs.Forms.{number_form, take_number}
+use Rattle.daachorse_bytewise.specs.ReadForms.{GivesAutomaton}
 use Rattle.daachorse_bytewise.specs.Replaced.{AppendsBeginning}
+use Rattle.daachorse_bytewise.specs.WrittenForms.{IsAutomaton, written_form}
 use Rattle.daacfind_command.specs.Commands.{Tells}
-use Rattle.daacfind_command.specs.Runs.{IsWritten}
+use Rattle.daacfind_command.specs.Runs.{IsWritten, value_gives}
 use Rattle.daacgrep_command.specs.declared.flag.Flag.{Flag}
-use Rattle.daacgrep_command.specs.declared.flag.Flag.TheVariants.{WithName, NoName, OnlyMatches, Places, Numbers, Count as Counts, FileNames, Quiet, IgnoreCase, Invert, NullData, First, Help, Version}
+use Rattle.daacgrep_command.specs.declared.flag.Flag.TheVariants.{WithName, NoName, OnlyMatches, Places, Numbers, Count as Counts, FileNames, Quiet, IgnoreCase, Invert, NullData, First, Overlapping, Values, Help, Version}
 use Rattle.daacgrep_command.specs.declared.files.Outcome.{Outcome}
 use Rattle.daacgrep_command.specs.declared.options.Role.TheVariants.{Any}
 use Rattle.daacgrep_command.specs.declared.search.Report.{Report}
@@ -22,7 +27,10 @@ use Rattle.daacgrep_command.specs.declared.search.Report.TheVariants.{Lines, Mat
 use Rattle.daacgrep_command.specs.declared.search.Task.{Task}
 use Rattle.daacgrep_command.specs.Flags.{asks}
 use Rattle.daacgrep_command.specs.Lines.{lines_of}
-use Rattle.daacgrep_command.specs.Options.{Asked, AreKnown, options_of, requests}
+use Rattle.daacgrep_command.specs.Options.{Asked, CanBeMet, are_any, last_of, options_of, requests}
+use Rattle.daacgrep_command.specs.Rules.{pattern_of}
+use Rattle.daacgrep_command.specs.Saved.{SavedFile, Stores}
+use Rattle.daacgrep_command.specs.Sought.{Sought}
 use Rattle.daacgrep_command.specs.Printed.{file_text, has_selected}
 
 -- a file that was asked for: its name, and its bytes, or none where it cannot be read
@@ -39,9 +47,9 @@ pub record AreFilesOf (given : Option (List ℕ → Option (List ℕ))) (names :
 abbrev pub has_unread : List GivenFile → Bool
 has_unread files = list_any (λ f. is_none f.bytes) files
 
--- how the matches are found: the longest at each start, or the first of the patterns
+-- how the matches are found: all of them, or of those at one start that of the first pattern, or the longest
 abbrev pub kind_asked : List Flag → MatchKind
-kind_asked flags = if asks First flags then LeftmostFirst else LeftmostLongest
+kind_asked flags = if asks Overlapping flags then Standard else (if asks First flags then LeftmostFirst else LeftmostLongest)
 
 -- what is written of each file
 abbrev pub report_asked : List Flag → Report
@@ -64,6 +72,7 @@ task_asked flags several = record {
     names = not (asks NoName flags) && (several || asks WithName flags);
     numbers = asks Numbers flags;
     places = asks Places flags;
+    values = asks Values flags;
     end = end_asked flags;
   };
 }
@@ -82,9 +91,46 @@ closed_file f = closed (unwrap_or f.bytes [])
 abbrev pub pattern_text : List (List ℕ) → List GivenFile → List ℕ
 pattern_text patterns files = flat_map (λ p. p ++ 10 ∷ []) patterns ++ flat_map closed_file files
 
--- the patterns that are searched for
-abbrev pub dictionary_asked : Asked → List GivenFile → Dictionary ℕ
-dictionary_asked asked files = dictionary (kind_asked asked.flags) (texts_as_read (asks IgnoreCase asked.flags) (with_numbers 0 (pattern_lines (pattern_text asked.patterns files))))
+-- the lines of the patterns
+abbrev pub rules_asked : Asked → List GivenFile → List (List ℕ)
+rules_asked asked files = pattern_lines (pattern_text asked.patterns files)
+
+-- a pattern, a file of patterns or a written automaton is named
+abbrev pub names_patterns : Asked → Bool
+names_patterns asked = are_any asked.patterns || are_any asked.pattern_files || is_some (last_of asked.loads)
+
+-- the patterns of these lines
+abbrev pub dictionary_asked : List Flag → List (List ℕ) → Dictionary ℕ
+dictionary_asked flags rules = dictionary (kind_asked flags) (texts_as_read (asks IgnoreCase flags) (with_numbers 0 (map (pattern_of (asks Values flags)) rules)))
+
+-- the automaton is for the searches that are asked for
+pub record IsSavedWith (flags : List Flag) (a : Automaton ℕ) : Type 0 where
+  pub kind : kind_of a ≡ kind_asked flags
+  pub folds : a.folds ≡ asks IgnoreCase flags
+
+module _ (flags : List Flag) (given : Option (List ℕ → Option (List ℕ))) where
+  -- the file of this name begins with the automaton, which is for the searches that are asked for
+  pub record IsLoaded (name : List ℕ) (a : Automaton ℕ) : Type 0 where
+    pub bytes : List ℕ
+    pub told : Tells given name (Some bytes)
+    pub rest : List ℕ
+    pub begins : GivesAutomaton (take_number w32) bytes a rest
+    pub fits : IsSavedWith flags a
+
+  module _ (rules : List (List ℕ)) where
+    -- the automaton that is asked for: one of the patterns of these lines, or that of a file
+    abbrev pub IsAutomatonAsked : Option (List ℕ) → Automaton ℕ → Type 0
+    IsAutomatonAsked None a = IsBuiltOf value_gives (kind_asked flags) (asks IgnoreCase flags) (map (pattern_of (asks Values flags)) rules) a
+    IsAutomatonAsked (Some name) a = IsLoaded name a
+
+    -- the patterns that are searched for: those of these lines, or those of that automaton
+    abbrev pub AreSought : Option (List ℕ) → Dictionary ℕ → Type 0
+    AreSought None K = K ≡ dictionary_asked flags rules
+    AreSought (Some name) K = (a : Automaton ℕ) × IsLoaded name a × (K ≡ dictionary_of a)
+
+-- what is sought, where these are the patterns
+abbrev pub sought_asked : List Flag → Dictionary ℕ → Sought
+sought_asked flags K = record { dictionary = K; folds = asks IgnoreCase flags; kind = kind_asked flags }
 
 -- the names of the files that are searched: standard input, where there is no other
 abbrev pub names_asked : List (List ℕ) → List (List ℕ)
@@ -95,17 +141,18 @@ names_asked (name ∷ names) = name ∷ names
 abbrev pub shown : List ℕ → List ℕ
 shown name = if same_text name (codes "-") then codes "(standard input)" else name
 
-module _ (K : Dictionary ℕ) (folds : Bool) (task : Task) where
+module _ (s : Sought) (rules : List (List ℕ)) (task : Task) where
   -- what is written of a file
   abbrev pub text_of_file : GivenFile → List ℕ
-  text_of_file f = unwrap_or (option_map (file_text K folds task (shown f.name)) f.bytes) []
+  text_of_file f = unwrap_or (option_map (file_text s rules task (shown f.name)) f.bytes) []
 
   abbrev pub files_text : List GivenFile → List ℕ
   files_text files = flat_map text_of_file files
 
+module _ (s : Sought) (task : Task) where
   -- a line of the file is selected
   abbrev pub selects_of : GivenFile → Bool
-  selects_of f = unwrap_or (option_map (λ text. has_selected K folds task.inverts (lines_of task.labels.end text)) f.bytes) false
+  selects_of f = unwrap_or (option_map (λ text. has_selected s task.inverts (lines_of task.labels.end text)) f.bytes) false
 
   -- what came of the search of these files
   abbrev pub outcome_of : List GivenFile → Outcome
@@ -126,85 +173,99 @@ pub record HasRead (given : Option (List ℕ → Option (List ℕ))) (names : Li
   pub are_read : has_unread files ≡ false
   pub added : new ≡ old ++ flat_map closed_file files
 
--- the lines of the text are the patterns that are asked for
+-- the lines of the text are those of the patterns that are asked for
 pub record GivesPatterns (asked : Asked) (given : Option (List ℕ → Option (List ℕ))) (text : List ℕ) : Type 0 where
   pub files : List GivenFile
   pub are_files : AreFilesOf given asked.pattern_files files
   pub are_read : has_unread files ≡ false
   pub is : text ≡ pattern_text asked.patterns files
 
--- the automaton holds the patterns that are asked for
-pub record IsForPatterns (asked : Asked) (given : Option (List ℕ → Option (List ℕ))) (a : Automaton ℕ) : Type 0 where
-  pub files : List GivenFile
-  pub are_files : AreFilesOf given asked.pattern_files files
-  pub are_read : has_unread files ≡ false
-  pub holds : dictionary_of a ≡ dictionary_asked asked files
-  pub folds : a.folds ≡ asks IgnoreCase asked.flags
-
-module _ (K : Dictionary ℕ) (folds : Bool) (task : Task) (given : Option (List ℕ → Option (List ℕ))) (names : List (List ℕ)) where
+module _ (s : Sought) (rules : List (List ℕ)) (task : Task) (given : Option (List ℕ → Option (List ℕ))) (names : List (List ℕ)) where
   -- the files of these names were searched, or as far as the sink took what is written of them
   pub record AreSearched {E : Type 0} (old new : Option (List ℕ)) (failures_old failures_new : ℕ) (result : Result Outcome E) : Type 0 where
     pub files : List GivenFile
     pub are_files : AreFilesOf given names files
-    pub written : IsWritten old new failures_old failures_new result (files_text K folds task files)
-    pub outcome : IfOk result (λ o. o ≡ outcome_of K folds task files)
+    pub written : IsWritten old new failures_old failures_new result (files_text s rules task files)
+    pub outcome : IfOk result (λ o. o ≡ outcome_of s task files)
 
-module _ (K : Dictionary ℕ) (folds : Bool) (asked : Asked) (given : Option (List ℕ → Option (List ℕ))) where
+module _ (s : Sought) (rules : List (List ℕ)) (asked : Asked) (given : Option (List ℕ → Option (List ℕ))) where
   -- the files that are asked for were searched for these patterns, or as far as the sink took what is written of them
   pub record IsSearched {E : Type 0} (old new : Option (List ℕ)) (failures_old failures_new : ℕ) (result : Result ℕ E) : Type 0 where
     pub files : List GivenFile
     pub are_files : AreFilesOf given (names_asked asked.files) files
-    pub written : IsWritten old new failures_old failures_new result (files_text K folds (task_of asked) files)
-    pub status : IfOk result (λ s. s ≡ status_of_outcome (asks Quiet asked.flags) (outcome_of K folds (task_of asked) files))
+    pub written : IsWritten old new failures_old failures_new result (files_text s rules (task_of asked) files)
+    pub status : IfOk result (λ status. status ≡ status_of_outcome (asks Quiet asked.flags) (outcome_of s (task_of asked) files))
 
 -- a search is asked for, by which this text is to be written, with this status at the end
 pub record IsSearch (asked : Asked) (given : Option (List ℕ → Option (List ℕ))) (text : List ℕ) (status : ℕ) : Type 0 where
   pub pattern_files : List GivenFile
   pub are_pattern_files : AreFilesOf given asked.pattern_files pattern_files
   pub are_read : has_unread pattern_files ≡ false
+  pub named : names_patterns asked ≡ true
+  pub patterns : Dictionary ℕ
+  pub are_sought : AreSought asked.flags given (rules_asked asked pattern_files) (last_of asked.loads) patterns
   pub files : List GivenFile
   pub are_files : AreFilesOf given (names_asked asked.files) files
-  pub text_is : text ≡ files_text (dictionary_asked asked pattern_files) (asks IgnoreCase asked.flags) (task_of asked) files
-  pub status_is : status ≡ status_of_outcome (asks Quiet asked.flags) (outcome_of (dictionary_asked asked pattern_files) (asks IgnoreCase asked.flags) (task_of asked) files)
+  pub text_is : text ≡ files_text (sought_asked asked.flags patterns) (rules_asked asked pattern_files) (task_of asked) files
+  pub status_is : status ≡ status_of_outcome (asks Quiet asked.flags) (outcome_of (sought_asked asked.flags patterns) (task_of asked) files)
+
+-- an automaton is asked for, of which these bytes are the written form
+pub record IsSave (asked : Asked) (given : Option (List ℕ → Option (List ℕ))) (bytes : List ℕ) : Type 0 where
+  pub pattern_files : List GivenFile
+  pub are_pattern_files : AreFilesOf given asked.pattern_files pattern_files
+  pub are_read : has_unread pattern_files ≡ false
+  pub named : names_patterns asked ≡ true
+  pub automaton : Automaton ℕ
+  pub is_asked : IsAutomatonAsked asked.flags given (rules_asked asked pattern_files) (last_of asked.loads) automaton
+  pub is_one : IsAutomaton (λ v. v < 2 ^ 32) automaton
+  pub form : bytes ≡ written_form (number_form w32) automaton
+
+-- this text is to be written, and these files, with this status at the end: an automaton is saved in the file of a name, or else files are searched
+abbrev pub IsWork : Asked → Option (List ℕ → Option (List ℕ)) → Option (List ℕ) → List ℕ → List SavedFile → ℕ → Type 0
+IsWork asked given None text saved status = IsSearch asked given text status × (saved ≡ [])
+IsWork asked given (Some name) text saved status = (text ≡ []) × (status ≡ 0) × ((bytes : List ℕ) × IsSave asked given bytes × (saved ≡ record { name = name; bytes = bytes } ∷ []))
 
 -- the usage or the version is asked for
 abbrev pub tells_of_itself : Asked → Bool
 tells_of_itself asked = asks Help asked.flags || asks Version asked.flags
 
--- this text is asked for, and this status at the end
-abbrev pub IsAnswer : Asked → Option (List ℕ → Option (List ℕ)) → List ℕ → ℕ → Type 0
-IsAnswer asked given text status = ((tells_of_itself asked ≡ true) × (status ≡ 0)) ⊎ ((tells_of_itself asked ≡ false) × IsSearch asked given text status)
+-- this text and these files are asked for, and this status at the end
+abbrev pub IsAnswer : Asked → Option (List ℕ → Option (List ℕ)) → List ℕ → List SavedFile → ℕ → Type 0
+IsAnswer asked given text saved status = ((tells_of_itself asked ≡ true) × (saved ≡ []) × (status ≡ 0)) ⊎ ((tells_of_itself asked ≡ false) × IsWork asked given (last_of asked.saves) text saved status)
 
-module _ (asked : Asked) (given : Option (List ℕ → Option (List ℕ))) (old new : Option (List ℕ)) (failures_old failures_new : ℕ) where
+module _ (asked : Asked) (given : Option (List ℕ → Option (List ℕ))) (old new : Option (List ℕ)) (failures_old failures_new : ℕ) (saved_old saved_new : Option (List SavedFile)) where
   -- all that is asked for was written
   pub record IsDone (status : ℕ) : Type 0 where
     pub text : List ℕ
-    pub is_answer : IsAnswer asked given text status
+    pub saved : List SavedFile
+    pub is_answer : IsAnswer asked given text saved status
     pub written : Appends old new text
+    pub stored : Stores saved_old saved_new saved
     pub unfailed : failures_new ≡ failures_old
 
   -- writing failed, after a beginning of what is asked for
   pub record IsCutOff : Type 0 where
     pub text : List ℕ
     pub status : ℕ
-    pub is_answer : IsAnswer asked given text status
+    pub is_answer : IsAnswer asked given text [] status
     pub written : AppendsBeginning old new text
+    pub kept : saved_new ≡ saved_old
     pub failed : failures_new ≡ failures_old + 1
 
   -- how an attempt ends: with a status, or it fails, and then mostly before anything was written
   abbrev pub Ends : {E : Type 0} → Result ℕ E → Type 0
   Ends (Ok status) = IsDone status
-  Ends (Err e) = (Keeps old new × (failures_new ≡ failures_old)) ⊎ IsCutOff
+  Ends (Err e) = (Keeps old new × (failures_new ≡ failures_old) × (saved_new ≡ saved_old)) ⊎ IsCutOff
 
 -- the status of an attempt
 abbrev pub status_of : {E : Type 0} → Result ℕ E → ℕ
 status_of (Ok status) = status
 status_of (Err e) = 2
 
-module _ (words : List (List ℕ)) (given : Option (List ℕ → Option (List ℕ))) (old new : Option (List ℕ)) (failures_old failures_new : ℕ) where
-  -- What a status says: the words are known, and all that they ask for was written, with the status that it has; or the status is 2, and nothing was written, or a beginning of what known words ask for.
+module _ (words : List (List ℕ)) (given : Option (List ℕ → Option (List ℕ))) (old new : Option (List ℕ)) (failures_old failures_new : ℕ) (saved_old saved_new : Option (List SavedFile)) where
+  -- What a status says: the words can be met, and all that they ask for was written, with the status that it has; or the status is 2, and nothing was written, or a beginning of what words ask for that can be met.
   abbrev pub EndsBy : ℕ → Type 0
   EndsBy status =
-      (AreKnown (requests Any words) × IsDone (options_of (requests Any words)) given old new failures_old failures_new status)
-      ⊎ ((status ≡ 2) × ((Keeps old new × (failures_new ≡ failures_old))
-      ⊎ (AreKnown (requests Any words) × IsCutOff (options_of (requests Any words)) given old new failures_old failures_new)))
+      (CanBeMet (requests Any words) × IsDone (options_of (requests Any words)) given old new failures_old failures_new saved_old saved_new status)
+      ⊎ ((status ≡ 2) × ((Keeps old new × (failures_new ≡ failures_old) × (saved_new ≡ saved_old))
+      ⊎ (CanBeMet (requests Any words) × IsCutOff (options_of (requests Any words)) given old new failures_old failures_new saved_old saved_new)))

@@ -3,7 +3,7 @@ use Rattle.std.specs.Prelude.{ℕ, ◌==◌, Bool, List, [], ◌∷◌, Option, 
 use Rattle.std.specs.List.{list_any}
 use Rattle.daachorse_model.specs.Units.{same_text}
 use Rattle.daacgrep_command.specs.declared.flag.Flag.{Flag}
-use Rattle.daacgrep_command.specs.declared.flag.Flag.TheVariants.{WithName, NoName, OnlyMatches, Places, Numbers, Count, FileNames, Quiet, IgnoreCase, Invert, NullData, Longest, First, Help, Version}
+use Rattle.daacgrep_command.specs.declared.flag.Flag.TheVariants.{WithName, NoName, OnlyMatches, Places, Numbers, Count, FileNames, Quiet, IgnoreCase, Invert, NullData, Longest, First, Overlapping, Values, Help, Version}
 
 -- how a flag is written
 abbrev pub flag_text : Flag → List ℕ
@@ -20,12 +20,14 @@ flag_text Invert = codes "-v"
 flag_text NullData = codes "--null-data"
 flag_text Longest = codes "--longest"
 flag_text First = codes "--first"
+flag_text Overlapping = codes "--overlapping"
+flag_text Values = codes "--values"
 flag_text Help = codes "--help"
 flag_text Version = codes "--version"
 
 -- all flags
 abbrev pub flags : List Flag
-flags = WithName ∷ NoName ∷ OnlyMatches ∷ Places ∷ Numbers ∷ Count ∷ FileNames ∷ Quiet ∷ IgnoreCase ∷ Invert ∷ NullData ∷ Longest ∷ First ∷ Help ∷ Version ∷ []
+flags = WithName ∷ NoName ∷ OnlyMatches ∷ Places ∷ Numbers ∷ Count ∷ FileNames ∷ Quiet ∷ IgnoreCase ∷ Invert ∷ NullData ∷ Longest ∷ First ∷ Overlapping ∷ Values ∷ Help ∷ Version ∷ []
 
 -- the flag that is written so, if any
 abbrev pub flag_of : List ℕ → Option Flag
@@ -46,8 +48,10 @@ flag_place Invert = 9
 flag_place NullData = 10
 flag_place Longest = 11
 flag_place First = 12
-flag_place Help = 13
-flag_place Version = 14
+flag_place Overlapping = 13
+flag_place Values = 14
+flag_place Help = 15
+flag_place Version = 16
 
 -- the flag is one of these
 abbrev pub asks : Flag → List Flag → Bool

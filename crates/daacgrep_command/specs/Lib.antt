@@ -4,3 +4,6 @@ pub mod Flags
 pub mod Lines
 pub mod Options
 pub mod Printed
+pub mod Rules
+pub mod Saved
+pub mod Sought

@@ -1,11 +1,8 @@
 -- The text that is written of a file.
-use Rattle.std.specs.Prelude.{ℕ, ◌+◌, ◌==◌, Bool, true, false, not, List, [], ◌∷◌, ◌++◌, Option, Some, None, count_by, decimal, flat_map, slice_range, if◌then◌else◌}
-use Rattle.std.specs.Borrow.{Bor}
+use Rattle.std.specs.Prelude.{ℕ, ◌+◌, ◌==◌, Bool, true, false, not, List, [], ◌∷◌, ◌++◌, count_by, decimal, flat_map, slice_range, if◌then◌else◌}
 use Rattle.std.specs.List.{list_any}
 use Rattle.daachorse_model.specs.declared.Match.{Match}
-use Rattle.daachorse_model.specs.Dictionary.{Dictionary}
 use Rattle.daachorse_model.specs.Folding.{as_read}
-use Rattle.daachorse_model.specs.Leftmost.{leftmost}
 use Rattle.daachorse_model.specs.Matches.{overlapping}
 use Rattle.daachorse_model.specs.Units.{byte_width}
 use Rattle.daacgrep_command.specs.declared.printing.Labels.{Labels}
@@ -14,6 +11,8 @@ use Rattle.daacgrep_command.specs.declared.search.Report.TheVariants.{Lines, Mat
 use Rattle.daacgrep_command.specs.declared.search.Task.{Task}
 use Rattle.daacgrep_command.specs.Fields.{entry, name_field}
 use Rattle.daacgrep_command.specs.Lines.{TextLine, lines_of}
+use Rattle.daacgrep_command.specs.Rules.{first_value, match_value}
+use Rattle.daacgrep_command.specs.Sought.{Sought, matches_in}
 
 -- a list has an element
 abbrev pub has_any : {X : Type 0} → List X → Bool
@@ -21,14 +20,14 @@ has_any [] = false
 has_any (x ∷ xs) = true
 
 -- what is written of a match: nothing, where it is empty, and else its part of the line behind its own labels
-abbrev pub match_text : Labels → List ℕ → TextLine → Match ℕ → List ℕ
-match_text labels name line m = if m.start == m.end then [] else entry labels name line.number (line.start + m.start) (slice_range line.bytes m.start m.end)
+abbrev pub match_text : List (List ℕ) → Labels → List ℕ → TextLine → Match ℕ → List ℕ
+match_text rules labels name line m = if m.start == m.end then [] else entry labels name line.number (line.start + m.start) (match_value rules m) (slice_range line.bytes m.start m.end)
 
--- what is written of a file of this name, by a search for the patterns of a dictionary in lines as they are read
-module _ (K : Dictionary ℕ) (folds : Bool) where
+-- what is written of a file of this name, where these are the lines of the patterns that are sought
+module _ (s : Sought) where
   -- a pattern occurs in the line
   abbrev pub occurs : List ℕ → Bool
-  occurs line = has_any (overlapping byte_width K (as_read folds line))
+  occurs line = has_any (overlapping byte_width s.dictionary (as_read s.folds line))
 
   -- the line is selected: a pattern occurs in it, or where that is inverted none does
   abbrev pub is_selected : Bool → List ℕ → Bool
@@ -41,23 +40,23 @@ module _ (K : Dictionary ℕ) (folds : Bool) where
   abbrev pub selected_count : Bool → List TextLine → ℕ
   selected_count inverts lines = count_by (λ line. is_selected inverts line.bytes) lines
 
-  module _ (labels : Labels) (name : List ℕ) where
-    -- of a line: its leftmost matches
+  module _ (rules : List (List ℕ)) (labels : Labels) (name : List ℕ) where
+    -- of a line: its matches
     abbrev pub matches_text : TextLine → List ℕ
-    matches_text line = flat_map (match_text labels name line) (leftmost byte_width K (as_read folds line.bytes))
+    matches_text line = flat_map (match_text rules labels name line) (matches_in s line.bytes)
 
     -- of a selected line: the line or its matches
     abbrev pub line_text : Report → TextLine → List ℕ
-    line_text Lines line = entry labels name line.number line.start line.bytes
+    line_text Lines line = entry labels name line.number line.start (first_value rules (matches_in s line.bytes)) line.bytes
     line_text Matches line = matches_text line
     line_text Count line = []
     line_text Name line = []
     line_text Nothing line = []
 
-  module _ (task : Task) (name : List ℕ) where
+  module _ (rules : List (List ℕ)) (task : Task) (name : List ℕ) where
     -- of a line: nothing, unless it is selected
     abbrev pub part_of_line : TextLine → List ℕ
-    part_of_line line = if is_selected task.inverts line.bytes then line_text task.labels name task.report line else []
+    part_of_line line = if is_selected task.inverts line.bytes then line_text rules task.labels name task.report line else []
 
     -- of all lines
     abbrev pub lines_text : List TextLine → List ℕ

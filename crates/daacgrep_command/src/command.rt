@@ -2,14 +2,16 @@
 
 ghost use Rattle.std.specs.Prelude.{◌≡◌, IfOk, map};
 ghost use Rattle.daacfind_command.specs.Runs.{IsWritten};
-ghost use Rattle.daachorse_bytewise.specs.Automata.{dictionary_of};
 ghost use Rattle.daacgrep_command.specs.Asked.{Ends, EndsBy, IsSearched, end_asked, names_asked, report_asked, status_of, task_of};
+ghost use Rattle.daacgrep_command.specs.Sought.{sought_of};
 
+use crate::automaton::{automaton, save};
 use crate::error::CommandError;
 use crate::files::search_files;
 use crate::flag::Flag;
 use crate::options::Options;
-use crate::patterns::searcher;
+use crate::outputs::Outputs;
+use crate::patterns::{lines, text};
 use crate::printing::Labels;
 use crate::search::{Report, Task};
 use crate::searcher::Searcher;
@@ -19,7 +21,7 @@ use std::alloc::Global;
 use std::fmt::Write;
 
 const USAGE: &str = "\
-usage: daacgrep [OPTION..] -e PATTERN | -f PATTERNS [FILE..]
+usage: daacgrep [OPTION..] -e PATTERN | -f PATTERNS | --load FILE [FILE..]
 Prints the lines of files, or of standard input, in which a pattern occurs.
   -e PATTERN  a pattern; again for more
   -f FILE     the lines of a file as patterns; - for standard input
@@ -28,10 +30,17 @@ Prints the lines of files, or of standard input, in which a pattern occurs.
   -o          each match in place of its line
   --longest   of matches at one start the longest, as is usual
   --first     of matches at one start that of the first pattern
+  --overlapping
+              all matches, also those that overlap
   -n, -b      the number of the line, the place of the line or match
   -H, -h      names of files, or none
   -c, -l      the number of lines, the names of files
   -q          print nothing
+  --values    a line of patterns has a value behind a tab, which is printed
+              behind the number and the place of its lines or matches
+  --save FILE write the automaton of the patterns to a file, and search none
+  --load FILE search by an automaton that was saved with the same -i, --first
+              and --overlapping; --values wants -f beside it
   --null-data zero bytes end lines, and not line feeds
   --help, --version
 Status: 0 if a line is selected, 1 if none, 2 after trouble.
@@ -44,16 +53,18 @@ const STANDARD_INPUT: &[&str] = &["-"];
 
 /// Runs the command, and returns its status: 0 if a line is selected, 1 if none is, and 2 after
 /// trouble. A file that cannot be read is told of on `err`, and the search goes on with the next.
-pub fn command<I: Inputs, S: Sink, E: Sink>(
+/// With `--save` the automaton is written to `saved`, the status is 0, and no file is searched.
+pub fn command<I: Inputs, O: Outputs, S: Sink, E: Sink>(
     alloc: Global,
     words: &[&str],
     files: &mut I,
+    saved: &mut O,
     out: &mut S,
     err: &mut E,
 ) -> u8
-    ensures { EndsBy (map (λ w. w.now) words.now) (I.given files.old) (S.taken out.old) (S.taken out.new) (S.failures out.old) (S.failures out.new) result }
+    ensures { EndsBy (map (λ w. w.now) words.now) (I.given files.old) (S.taken out.old) (S.taken out.new) (S.failures out.old) (S.failures out.new) (O.saved saved.old) (O.saved saved.new) result }
 {
-    match attempt(alloc, words, files, out, err) {
+    match attempt(alloc, words, files, saved, out, err) {
         Ok(status) => status,
         Err(error) => {
             let _ = writeln!(SinkText { sink: err }, "{error}");
@@ -62,28 +73,30 @@ pub fn command<I: Inputs, S: Sink, E: Sink>(
     }
 }
 
-fn attempt<'a, I: Inputs, S: Sink, E: Sink>(
+fn attempt<'a, I: Inputs, O: Outputs, S: Sink, E: Sink>(
     alloc: Global,
     words: &[&'a str],
     files: &mut I,
+    saved: &mut O,
     out: &mut S,
     err: &mut E,
 ) -> Result<u8, CommandError<'a>>
-    ensures { EndsBy (map (λ w. w.now) words.now) (I.given files.old) (S.taken out.old) (S.taken out.new) (S.failures out.old) (S.failures out.new) (status_of result) }
+    ensures { EndsBy (map (λ w. w.now) words.now) (I.given files.old) (S.taken out.old) (S.taken out.new) (S.failures out.old) (S.failures out.new) (O.saved saved.old) (O.saved saved.new) (status_of result) }
 {
     let options = Options::read(alloc, words)?;
-    answer(alloc, &options, files, out, err)
+    answer(alloc, &options, files, saved, out, err)
 }
 
 // Does what the options ask for.
-fn answer<'a, I: Inputs, S: Sink, E: Sink>(
+fn answer<'a, I: Inputs, O: Outputs, S: Sink, E: Sink>(
     alloc: Global,
     options: &Options<'a, Global>,
     files: &mut I,
+    saved: &mut O,
     out: &mut S,
     err: &mut E,
 ) -> Result<u8, CommandError<'a>>
-    ensures { Ends options.now (I.given files.old) (S.taken out.old) (S.taken out.new) (S.failures out.old) (S.failures out.new) result }
+    ensures { Ends options.now (I.given files.old) (S.taken out.old) (S.taken out.new) (S.failures out.old) (S.failures out.new) (O.saved saved.old) (O.saved saved.new) result }
 {
     if options.has(Flag::Help) {
         return told(USAGE, out);
@@ -91,8 +104,16 @@ fn answer<'a, I: Inputs, S: Sink, E: Sink>(
     if options.has(Flag::Version) {
         return told(VERSION, out);
     }
-    let searcher = searcher(alloc, options, files, err)?;
-    search(&searcher, options, files, out, err)
+    let text = text(alloc, options, files, err)?;
+    let rules = lines(alloc, &text)?;
+    let automaton = automaton(alloc, options, &rules, files)?;
+    match options.save_file() {
+        Some(name) => save(alloc, &automaton, name, saved),
+        None => {
+            let searcher = Searcher::new(alloc, automaton);
+            search(&searcher, &rules, options, files, out, err)
+        }
+    }
 }
 
 // Writes a text, and flushes the sink.
@@ -108,15 +129,16 @@ fn told<'a, S: Sink>(text: &str, out: &mut S) -> Result<u8, CommandError<'a>>
 // Searches the files that the options name, and flushes the sink.
 fn search<'a, I: Inputs, S: Sink, E: Sink>(
     searcher: &Searcher<Global>,
+    rules: &[&[u8]],
     options: &Options<'a, Global>,
     files: &mut I,
     out: &mut S,
     err: &mut E,
 ) -> Result<u8, CommandError<'a>>
-    ensures { IsSearched (dictionary_of searcher.now) searcher.now.folds options.now (I.given files.old) (S.taken out.old) (S.taken out.new) (S.failures out.old) (S.failures out.new) result }
+    ensures { IsSearched (sought_of searcher.now) (map (λ r. r.now) rules.now) options.now (I.given files.old) (S.taken out.old) (S.taken out.new) (S.failures out.old) (S.failures out.new) result }
 {
     let names = named(options);
-    let outcome = search_files(searcher, task(options), names, files, out, err)?;
+    let outcome = search_files(searcher, rules, task(options), names, files, out, err)?;
     out.flush()?;
     Ok(outcome.status(options.has(Flag::Quiet)))
 }
@@ -144,6 +166,7 @@ fn task(options: &Options<'_, Global>) -> Task
             names: !options.has(Flag::NoName) && (are_several || options.has(Flag::WithName)),
             numbers: options.has(Flag::Numbers),
             places: options.has(Flag::Places),
+            values: options.has(Flag::Values),
             end: line_end(options),
         },
     }

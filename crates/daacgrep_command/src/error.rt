@@ -13,14 +13,23 @@ pub enum CommandError<'a> {
     #[error(transparent)]
     Options(#[from] OptionError<'a>),
     /// There is no pattern.
-    #[error("daacgrep: no pattern: -e PATTERN or -f FILE is wanted; see daacgrep --help")]
+    #[error("daacgrep: no pattern: -e PATTERN, -f FILE or --load FILE is wanted; see daacgrep --help")]
     NoPattern,
-    /// A file of patterns cannot be read.
+    /// A file of patterns or an automaton cannot be read.
     #[error("daacgrep: cannot read {0}")]
     Read(&'a str),
     /// The build refused the patterns.
     #[error("daacgrep: {0}")]
     Build(#[from] DaachorseError),
+    /// A file begins with no automaton, or an allocation failed.
+    #[error("daacgrep: cannot load {0}: {1}")]
+    Load(&'a str, DaachorseError),
+    /// An automaton was saved with other options.
+    #[error("daacgrep: {0} was saved with other options: -i, --first and --overlapping must be as there")]
+    OtherOptions(&'a str),
+    /// An automaton cannot be written.
+    #[error("daacgrep: cannot write {0}")]
+    Save(&'a str),
     /// An allocation failed.
     #[error("daacgrep: {0}")]
     OutOfMemory(#[from] AllocError),

@@ -1,8 +1,8 @@
 //! The search of files by their names.
 
 ghost use Rattle.std.specs.Prelude.{◌≡◌, ◌∷◌, ◌&&◌, ◌||◌, [], map, not};
-ghost use Rattle.daachorse_bytewise.specs.Automata.{dictionary_of};
 ghost use Rattle.daacgrep_command.specs.Asked.{AreSearched, both, shown, status_of_outcome};
+ghost use Rattle.daacgrep_command.specs.Sought.{sought_of};
 
 use crate::search::{Task, search_file};
 use crate::searcher::Searcher;
@@ -50,20 +50,21 @@ impl Outcome {
 /// be read is told of on `err`, and the search goes on with the next.
 pub fn search_files<I: Inputs, S: Sink, E: Sink, A: Allocator>(
     searcher: &Searcher<A>,
+    rules: &[&[u8]],
     task: Task,
     names: &[&str],
     files: &mut I,
     out: &mut S,
     err: &mut E,
 ) -> Result<Outcome, SinkError>
-    ensures { AreSearched (dictionary_of searcher.now) searcher.now.folds task (I.given files.old) (map (λ n. n.now) names.now) (S.taken out.old) (S.taken out.new) (S.failures out.old) (S.failures out.new) result }
+    ensures { AreSearched (sought_of searcher.now) (map (λ r. r.now) rules.now) task (I.given files.old) (map (λ n. n.now) names.now) (S.taken out.old) (S.taken out.new) (S.failures out.old) (S.failures out.new) result }
 {
     let mut outcome = Outcome {
         selected: false,
         trouble: false,
     };
     for name in names {
-        let found = search_named(searcher, task, name, files, out, err)?;
+        let found = search_named(searcher, rules, task, name, files, out, err)?;
         outcome = outcome.and(found);
     }
     Ok(outcome)
@@ -71,6 +72,7 @@ pub fn search_files<I: Inputs, S: Sink, E: Sink, A: Allocator>(
 
 fn search_named<I: Inputs, S: Sink, E: Sink, A: Allocator>(
     searcher: &Searcher<A>,
+    rules: &[&[u8]],
     task: Task,
     name: &str,
     files: &mut I,
@@ -78,11 +80,11 @@ fn search_named<I: Inputs, S: Sink, E: Sink, A: Allocator>(
     err: &mut E,
 ) -> Result<Outcome, SinkError>
     ensures given { I.given files.new ≡ I.given files.old }
-    ensures searched { AreSearched (dictionary_of searcher.now) searcher.now.folds task (I.given files.old) (name.now ∷ []) (S.taken out.old) (S.taken out.new) (S.failures out.old) (S.failures out.new) result }
+    ensures searched { AreSearched (sought_of searcher.now) (map (λ r. r.now) rules.now) task (I.given files.old) (name.now ∷ []) (S.taken out.old) (S.taken out.new) (S.failures out.old) (S.failures out.new) result }
 {
     match files.read(name) {
         Some(text) => Ok(Outcome {
-            selected: search_file(searcher, task, shown(name), &text, out)?,
+            selected: search_file(searcher, rules, task, shown(name), &text, out)?,
             trouble: false,
         }),
         None => {

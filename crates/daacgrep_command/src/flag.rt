@@ -32,6 +32,11 @@ pub enum Flag {
     Longest,
     /// `--first`: of the matches at one start that of the first pattern counts.
     First,
+    /// `--overlapping`: all matches count, also those that overlap.
+    Overlapping,
+    /// `--values`: the lines of patterns have values behind a tab, and each line or match has that
+    /// of its pattern in front.
+    Values,
     /// `--help`: the usage.
     Help,
     /// `--version`: the version.
@@ -57,6 +62,8 @@ impl Flag {
             b"--null-data" => Some(Flag::NullData),
             b"--longest" => Some(Flag::Longest),
             b"--first" => Some(Flag::First),
+            b"--overlapping" => Some(Flag::Overlapping),
+            b"--values" => Some(Flag::Values),
             b"--help" => Some(Flag::Help),
             b"--version" => Some(Flag::Version),
             _ => None,

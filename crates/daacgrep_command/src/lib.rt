@@ -1,6 +1,8 @@
 //! The command of the program `daacgrep`: prints the lines of files in which a pattern occurs.
 #![tactic(auto)]
 
+pub mod automaton;
+pub mod clash;
 pub mod command;
 pub mod error;
 pub mod files;
@@ -8,8 +10,10 @@ pub mod flag;
 pub mod line;
 pub mod lines;
 pub mod options;
+pub mod outputs;
 pub mod patterns;
 pub mod printing;
 pub mod program;
+pub mod rule;
 pub mod search;
 pub mod searcher;

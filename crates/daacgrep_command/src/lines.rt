@@ -70,8 +70,8 @@ impl<'a> Iterator for Lines<'a> {
     }
 }
 
-// The length of the first line, and the place behind it and its mark.
-fn first_line(mark: u8, text: &[u8]) -> (usize, usize)
+/// Returns the length of the first line, and the place behind it and its mark.
+pub fn first_line(mark: u8, text: &[u8]) -> (usize, usize)
     ensures len { result.0 ≡ position_or_len (λ b. b == mark) text.now }
     ensures end { ((result.0 < length text.now) × (result.1 ≡ result.0 + 1)) ⊎ ((length text.now ≤ result.0) × (result.1 ≡ result.0)) }
     ensures within { result.1 ≤ length text.now }

@@ -1,11 +1,13 @@
 //! The options: what the words of a command line ask for.
 
-ghost use Rattle.std.specs.Prelude.{◌≡◌, ◌≤◌, ◌<◌, ◌∷◌, [], ℕ, IfErr, IfOk, OnOk, length, map};
+ghost use Rattle.std.specs.Prelude.{◌≡◌, ◌≤◌, ◌<◌, ◌∷◌, [], ℕ, IfErr, IfOk, OnOk, length, map, unwrap_or};
+ghost use Rattle.std.specs.Option.{option_map};
 ghost use Rattle.daacgrep_command.specs.declared.options.Role.TheVariants.{Any};
 ghost use Rattle.daacgrep_command.specs.declared.options.Shape.TheVariants.{Letters};
-ghost use Rattle.daacgrep_command.specs.Options.{AreKnown, IsCause, Takes, asked, asked_by, flag_letters, flag_or_unknown, letters_ask, options_of, requests, role_after, role_behind, role_of_word, shape_of};
+ghost use Rattle.daacgrep_command.specs.Options.{AreKnown, CanBeMet, IsCause, IsRefusal, Takes, asked, asked_by, clash_of, flag_letters, flag_or_unknown, last_of, letters_ask, long_asks, long_role, options_of, requests, role_after, role_behind, role_of_word, save_clash, shape_of};
 ghost use Rattle.daacgrep_command.specs.Flags.{asks, flag_of};
 
+use crate::clash::Clash;
 use crate::flag::Flag;
 use std::alloc::{AllocError, AllocFailed, Allocator};
 use std::marker::Model;
@@ -20,6 +22,9 @@ pub enum OptionError<'a> {
     /// The last word is an option that has its argument in a word behind it.
     #[error("daacgrep: {0} has no argument")]
     Missing(&'static str),
+    /// Options do not go together.
+    #[error("daacgrep: {0}")]
+    Clashing(Clash),
     /// An allocation failed.
     #[error("daacgrep: {0}")]
     OutOfMemory(AllocError),
@@ -56,6 +61,10 @@ pub enum Role {
     Pattern,
     /// As the name of a file of patterns: `-f` stands before it.
     PatternFile,
+    /// As the name of a file that is written: `--save` stands before it.
+    Save,
+    /// As the name of a written file: `--load` stands before it.
+    Load,
     /// As a file's name: `--` stands before it.
     File,
 }
@@ -97,6 +106,8 @@ pub struct Options<'a, A: Allocator> {
     flags: Vec<Flag, A>,
     patterns: Vec<&'a str, A>,
     pattern_files: Vec<&'a str, A>,
+    saves: Vec<&'a str, A>,
+    loads: Vec<&'a str, A>,
     files: Vec<&'a str, A>,
 }
 
@@ -106,7 +117,7 @@ impl<'a, A: Allocator> Model for Options<'a, A> {
 
     ghost Value = { Asked };
 
-    ghost view = { λ o. record { flags = o.flags.items; patterns = map (λ t. t.now) o.patterns.items; pattern_files = map (λ t. t.now) o.pattern_files.items; files = map (λ t. t.now) o.files.items } };
+    ghost view = { λ o. record { flags = o.flags.items; patterns = map (λ t. t.now) o.patterns.items; pattern_files = map (λ t. t.now) o.pattern_files.items; saves = map (λ t. t.now) o.saves.items; loads = map (λ t. t.now) o.loads.items; files = map (λ t. t.now) o.files.items } };
 }
 
 impl<'a, A: Allocator + Copy> Options<'a, A> {
@@ -114,9 +125,23 @@ impl<'a, A: Allocator + Copy> Options<'a, A> {
     ///
     /// # Errors
     ///
-    /// [`OptionError::Unknown`] and [`OptionError::Missing`], which name the word, and
-    /// [`OptionError::OutOfMemory`] if an allocation fails.
+    /// [`OptionError::Unknown`] and [`OptionError::Missing`], which name the word,
+    /// [`OptionError::Clashing`] if options do not go together, and [`OptionError::OutOfMemory`] if
+    /// an allocation fails.
     pub fn read(alloc: A, words: &[&'a str]) -> Result<Self, OptionError<'a>>
+        ensures met { OnOk result (CanBeMet (requests Any (map (λ w. w.now) words.now))) }
+        ensures ok { IfOk result (λ o. o ≡ options_of (requests Any (map (λ w. w.now) words.now))) }
+        ensures err { IfErr result (λ e. IsRefusal e (requests Any (map (λ w. w.now) words.now))) }
+    {
+        let options = Options::read_words(alloc, words)?;
+        match options.clash() {
+            Some(clash) => Err(OptionError::Clashing(clash)),
+            None => Ok(options),
+        }
+    }
+
+    // Reads the words, whether or not they go together.
+    fn read_words(alloc: A, words: &[&'a str]) -> Result<Self, OptionError<'a>>
         ensures known { OnOk result (AreKnown (requests Any (map (λ w. w.now) words.now))) }
         ensures ok { IfOk result (λ o. o ≡ options_of (requests Any (map (λ w. w.now) words.now))) }
         ensures err { IfErr result (λ e. IsCause e (requests Any (map (λ w. w.now) words.now))) }
@@ -129,6 +154,8 @@ impl<'a, A: Allocator + Copy> Options<'a, A> {
         match role {
             Role::Pattern => Err(OptionError::Missing("-e")),
             Role::PatternFile => Err(OptionError::Missing("-f")),
+            Role::Save => Err(OptionError::Missing("--save")),
+            Role::Load => Err(OptionError::Missing("--load")),
             Role::Any | Role::File => Ok(options),
         }
     }
@@ -154,11 +181,53 @@ impl<'a, A: Allocator + Copy> Options<'a, A> {
         &self.pattern_files
     }
 
+    /// The file that the automaton is written to, if any: that of the last `--save`.
+    pub fn save_file(&self) -> Option<&'a str>
+        ensures { option_map (λ n. n.now) result ≡ last_of self.now.saves }
+    {
+        last_name(&self.saves)
+    }
+
+    /// The file that the automaton is read from, if any: that of the last `--load`.
+    pub fn load_file(&self) -> Option<&'a str>
+        ensures { option_map (λ n. n.now) result ≡ last_of self.now.loads }
+    {
+        last_name(&self.loads)
+    }
+
     /// The files that are searched.
     pub fn files(&self) -> &[&'a str]
         ensures { map (λ t. t.now) result.now ≡ self.now.files }
     {
         &self.files
+    }
+
+    // What does not go together, if anything.
+    fn clash(&self) -> Option<Clash>
+        ensures { result ≡ clash_of self.now }
+    {
+        let has_values = self.has(Flag::Values);
+        let has_patterns = !self.patterns().is_empty();
+        let has_pattern_files = !self.pattern_files().is_empty();
+        if self.load_file().is_none() {
+            self.clash_with_save()
+        } else if has_values && !has_pattern_files {
+            Some(Clash::NoLines)
+        } else if !has_values && (has_patterns || has_pattern_files) {
+            Some(Clash::Patterns)
+        } else {
+            self.clash_with_save()
+        }
+    }
+
+    fn clash_with_save(&self) -> Option<Clash>
+        ensures { result ≡ save_clash self.now }
+    {
+        if self.save_file().is_some() && !self.files().is_empty() {
+            Some(Clash::Files)
+        } else {
+            None
+        }
     }
 
     fn new(alloc: A) -> Self
@@ -168,6 +237,8 @@ impl<'a, A: Allocator + Copy> Options<'a, A> {
             flags: Vec::new(alloc),
             patterns: Vec::new(alloc),
             pattern_files: Vec::new(alloc),
+            saves: Vec::new(alloc),
+            loads: Vec::new(alloc),
             files: Vec::new(alloc),
         }
     }
@@ -185,6 +256,14 @@ impl<'a, A: Allocator + Copy> Options<'a, A> {
             }
             Role::PatternFile => {
                 self.pattern_files.push(word)?;
+                Ok(Role::Any)
+            }
+            Role::Save => {
+                self.saves.push(word)?;
+                Ok(Role::Any)
+            }
+            Role::Load => {
+                self.loads.push(word)?;
                 Ok(Role::Any)
             }
             Role::File => {
@@ -205,11 +284,21 @@ impl<'a, A: Allocator + Copy> Options<'a, A> {
                 Ok(Role::Any)
             }
             Shape::Letters => self.take_letters(word, &bytes[1..]),
-            Shape::Long => {
-                self.take_flag(word, bytes)?;
+            Shape::Long => self.take_long(word),
+            Shape::End => Ok(Role::File),
+        }
+    }
+
+    fn take_long(&mut self, word: &'a str) -> Result<Role, OptionError<'a>>
+        ensures takes { Takes self.old self.new (long_asks (long_role word.now) word.now) result }
+        ensures role { IfOk result (λ r. r ≡ unwrap_or (long_role word.now) Any) }
+    {
+        match long_role(word) {
+            Some(role) => Ok(role),
+            None => {
+                self.take_flag(word, word.as_bytes())?;
                 Ok(Role::Any)
             }
-            Shape::End => Ok(Role::File),
         }
     }
 
@@ -242,6 +331,24 @@ impl<'a, A: Allocator + Copy> Options<'a, A> {
             }
             None => Err(OptionError::Unknown(word)),
         }
+    }
+}
+
+// The last of some names.
+fn last_name<'a>(names: &[&'a str]) -> Option<&'a str>
+    ensures { option_map (λ n. n.now) result ≡ last_of (map (λ n. n.now) names.now) }
+{
+    names.last().copied()
+}
+
+// How the word behind a long option is read, if it is an argument.
+fn long_role(word: &str) -> Option<Role>
+    ensures { result ≡ long_role word.now }
+{
+    match word {
+        "--save" => Some(Role::Save),
+        "--load" => Some(Role::Load),
+        _ => None,
     }
 }
 

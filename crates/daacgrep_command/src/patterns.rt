@@ -1,57 +1,50 @@
 //! The patterns that are asked for.
 
-ghost use Rattle.std.specs.Prelude.{◌≡◌, ◌≢◌, ◌++◌, ◌∷◌, [], IfOk, OnOk, flat_map, map};
-ghost use Rattle.daachorse_model.specs.declared.MatchKind.TheVariants.{Standard};
+ghost use Rattle.std.specs.Prelude.{◌≡◌, ◌++◌, ◌∷◌, [], IfOk, OnOk, flat_map, map, true};
 ghost use Rattle.daachorse_model.specs.Program.{pattern_lines};
-ghost use Rattle.daacgrep_command.specs.Asked.{GivesPatterns, HasRead, IsForPatterns, closed, kind_asked};
+ghost use Rattle.daacgrep_command.specs.Asked.{GivesPatterns, HasRead, closed, names_patterns};
 
 use crate::error::CommandError;
-use crate::flag::Flag;
 use crate::lines::Lines;
 use crate::options::Options;
-use crate::searcher::Searcher;
 use daacfind_command::inputs::Inputs;
 use daacfind_command::sink::{Sink, SinkText};
-use daachorse::MatchKind;
 use std::alloc::{AllocError, Global};
 use std::fmt::Write;
 
-/// Builds the automaton of the patterns that are asked for. A carriage return at the end of one is
-/// told of on `err`.
+/// Returns the text whose lines are those of the patterns that are asked for. A carriage return at
+/// the end of one is told of on `err`.
 ///
 /// # Errors
 ///
-/// [`CommandError::NoPattern`] if there is none, [`CommandError::Read`] if a file of patterns
-/// cannot be read, [`CommandError::Build`] if the build refuses them, and
-/// [`CommandError::OutOfMemory`] if an allocation fails.
-pub fn searcher<'a, I: Inputs, E: Sink>(
+/// [`CommandError::NoPattern`] if no pattern and no written automaton is named,
+/// [`CommandError::Read`] if a file of patterns cannot be read, and [`CommandError::OutOfMemory`] if
+/// an allocation fails.
+pub fn text<'a, I: Inputs, E: Sink>(
     alloc: Global,
     options: &Options<'a, Global>,
     files: &mut I,
     err: &mut E,
-) -> Result<Searcher<Global>, CommandError<'a>>
+) -> Result<Vec<u8>, CommandError<'a>>
     ensures given { I.given files.new ≡ I.given files.old }
-    ensures ok { IfOk result (λ s. IsForPatterns options.now (I.given files.old) s) }
+    ensures ok { IfOk result (λ text. GivesPatterns options.now (I.given files.old) text.items) }
+    ensures named { OnOk result (names_patterns options.now ≡ true) }
 {
-    if options.patterns().is_empty() && options.pattern_files().is_empty() {
+    if !names_patterns(options) {
         return Err(CommandError::NoPattern);
     }
     let text = pattern_text(alloc, options, files)?;
     tell_of_returns(&text, err);
-    let patterns = lines(alloc, &text)?;
-    let folds = options.has(Flag::IgnoreCase);
-    Ok(Searcher::new(alloc, kind(options), folds, &patterns)?)
+    Ok(text)
 }
 
-fn kind(options: &Options<'_, Global>) -> MatchKind
-    ensures kind { result ≡ kind_asked options.now.flags }
-    ensures leftmost { result ≢ Standard }
+// A pattern, a file of patterns or a written automaton is named.
+fn names_patterns(options: &Options<'_, Global>) -> bool
+    ensures { result ≡ names_patterns options.now }
 {
-    if options.has(Flag::First) {
-        MatchKind::LeftmostFirst
-    } else {
-        MatchKind::LeftmostLongest
-    }
+    !options.patterns().is_empty()
+        || !options.pattern_files().is_empty()
+        || options.load_file().is_some()
 }
 
 // The text whose lines are the patterns.
@@ -120,12 +113,13 @@ fn tell_of_returns<E: Sink>(text: &[u8], err: &mut E) {
     if text.windows(2).any(|pair| pair == b"\r\n".as_slice()) {
         let _ = writeln!(
             SinkText { sink: err },
-            "daacgrep: a pattern ends with a carriage return, which is part of it"
+            "daacgrep: a line of patterns ends with a carriage return, which is part of it"
         );
     }
 }
 
-fn lines(alloc: Global, text: &[u8]) -> Result<Vec<&[u8]>, AllocError>
+/// Returns the lines of a text.
+pub fn lines(alloc: Global, text: &[u8]) -> Result<Vec<&[u8]>, AllocError>
     ensures { IfOk result (λ v. map (λ line. line.now) v.items ≡ pattern_lines text.now) }
 {
     let mut lines = Vec::new(alloc);

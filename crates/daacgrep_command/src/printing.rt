@@ -15,6 +15,8 @@ pub struct Labels {
     pub numbers: bool,
     /// The place of the first byte.
     pub places: bool,
+    /// The value of the pattern.
+    pub values: bool,
     /// The byte behind it.
     pub end: u8,
 }
@@ -25,14 +27,16 @@ pub fn write_entry<S: Sink>(
     name: &str,
     number: usize,
     place: usize,
+    value: &[u8],
     text: &[u8],
     out: &mut S,
 ) -> Result<(), SinkError>
-    ensures { IsWritten (S.taken out.old) (S.taken out.new) (S.failures out.old) (S.failures out.new) result (entry labels name.now number place text.now) }
+    ensures { IsWritten (S.taken out.old) (S.taken out.new) (S.failures out.old) (S.failures out.new) result (entry labels name.now number place value.now text.now) }
 {
-    write_name(labels.names, name, out)?;
+    write_name(labels.names, name.as_bytes(), out)?;
     write_field(labels.numbers, number, out)?;
     write_field(labels.places, place, out)?;
+    write_name(labels.values, value, out)?;
     write_marked(text, labels.end, out)
 }
 
@@ -45,7 +49,7 @@ pub fn write_count<S: Sink>(
 ) -> Result<(), SinkError>
     ensures { IsWritten (S.taken out.old) (S.taken out.new) (S.failures out.old) (S.failures out.new) result (name_field is_named name.now ++ (decimal count ++ 10 ∷ [])) }
 {
-    write_name(is_named, name, out)?;
+    write_name(is_named, name.as_bytes(), out)?;
     write_marked_number(count, b'\n', out)
 }
 
@@ -57,11 +61,12 @@ pub fn write_marked<S: Sink>(text: &[u8], mark: u8, out: &mut S) -> Result<(), S
     write_whole(out, &[mark])
 }
 
-fn write_name<S: Sink>(is_wanted: bool, name: &str, out: &mut S) -> Result<(), SinkError>
+// Writes a name or a value.
+fn write_name<S: Sink>(is_wanted: bool, name: &[u8], out: &mut S) -> Result<(), SinkError>
     ensures { IsWritten (S.taken out.old) (S.taken out.new) (S.failures out.old) (S.failures out.new) result (name_field is_wanted name.now) }
 {
     if is_wanted {
-        write_marked(name.as_bytes(), b':', out)
+        write_marked(name, b':', out)
     } else {
         Ok(())
     }

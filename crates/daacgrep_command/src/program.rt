@@ -1,10 +1,11 @@
 //! What the program has around its command: its words, its files and its streams.
 
 use crate::command::command;
+use crate::outputs::Outputs;
 use daacfind_command::inputs::Inputs;
-use daacfind_command::sink::WriterSink;
+use daacfind_command::sink::{SinkError, WriterSink};
 use std::alloc::Global;
-use std::io::{self, BufWriter, Read};
+use std::io::{self, BufWriter, Read, Write};
 use std::process::ExitCode;
 use std::rt::{Env, Files};
 use std::{env, fs};
@@ -29,6 +30,28 @@ impl<R: Files + Input + AllocGlobal> Inputs for SystemInputs<'_, R> {
         } else {
             fs::read(self.rt, name).ok()
         }
+    }
+}
+
+/// The files of the system, and standard output by the name `-`.
+#[derive(Drop)]
+pub struct SystemOutputs<'a, R: Files + Print> {
+    rt: &'a R,
+}
+
+impl<R: Files + Print> Outputs for SystemOutputs<'_, R> {
+    ghost use Rattle.std.specs.Prelude.{None};
+
+    // No contract can say what a file has.
+    ghost saved = { λ _. None };
+
+    fn write(&mut self, name: &str, bytes: &[u8]) -> Result<(), SinkError> {
+        let written = if name == "-" {
+            io::writer(self.rt).write_all(bytes)
+        } else {
+            fs::write(self.rt, name, bytes)
+        };
+        written.map_err(|_| SinkError)
     }
 }
 
@@ -57,6 +80,7 @@ fn status(rt: &HostRuntime) -> io::Result<u8> {
         rt.alloc(),
         &words,
         &mut SystemInputs { rt },
+        &mut SystemOutputs { rt },
         &mut WriterSink::new(out),
         &mut WriterSink::new(rt.stderr()),
     ))

@@ -1,15 +1,17 @@
 //! The search of one file.
 
-ghost use Rattle.std.specs.Prelude.{◌≡◌, ◌≤◌, [], ◌∷◌, ◌++◌, if◌then◌else◌, IfOk, decimal, length};
+ghost use Rattle.std.specs.Prelude.{◌≡◌, ◌≤◌, [], ◌∷◌, ◌++◌, if◌then◌else◌, ◌+◌, IfOk, decimal, length, map, slice_range};
 ghost use Rattle.daacfind_command.specs.Runs.{IsWritten};
-ghost use Rattle.daachorse_bytewise.specs.Automata.{dictionary_of};
 ghost use Rattle.daacgrep_command.specs.Lines.{lines_of, seen};
-ghost use Rattle.daacgrep_command.specs.Fields.{name_field};
+ghost use Rattle.daacgrep_command.specs.Rules.{first_value, match_value};
+ghost use Rattle.daacgrep_command.specs.Fields.{entry, name_field};
 ghost use Rattle.daacgrep_command.specs.Printed.{file_text, has_selected, is_selected, line_text, lines_text, match_text, matches_text, part_of_line, selected_count};
+ghost use Rattle.daacgrep_command.specs.Sought.{matches_in, sought_of};
 
 use crate::line::Line;
 use crate::lines::Lines;
 use crate::printing::{Labels, write_count, write_entry, write_marked};
+use crate::rule::match_value;
 use crate::searcher::Searcher;
 use daacfind_command::sink::{Sink, SinkError};
 use daachorse::Match;
@@ -44,17 +46,18 @@ pub struct Task {
 /// Writes what the task asks of a file, and returns whether a line is selected.
 pub fn search_file<S: Sink, A: Allocator>(
     searcher: &Searcher<A>,
+    rules: &[&[u8]],
     task: Task,
     name: &str,
     text: &[u8],
     out: &mut S,
 ) -> Result<bool, SinkError>
     ensures written { IsWritten (S.taken out.old) (S.taken out.new) (S.failures out.old) (S.failures out.new) result
-        (file_text (dictionary_of searcher.now) searcher.now.folds task name.now text.now) }
-    ensures selected { IfOk result (λ b. b ≡ has_selected (dictionary_of searcher.now) searcher.now.folds task.inverts (lines_of task.labels.end text.now)) }
+        (file_text (sought_of searcher.now) (map (λ r. r.now) rules.now) task name.now text.now) }
+    ensures selected { IfOk result (λ b. b ≡ has_selected (sought_of searcher.now) task.inverts (lines_of task.labels.end text.now)) }
 {
     match task.report {
-        Report::Lines | Report::Matches => write_selected(searcher, task, name, text, out),
+        Report::Lines | Report::Matches => write_selected(searcher, rules, task, name, text, out),
         Report::Count => write_selected_count(searcher, task, name, text, out),
         Report::Name => write_selected_name(
             searcher,
@@ -76,8 +79,8 @@ fn write_selected_count<S: Sink, A: Allocator>(
     out: &mut S,
 ) -> Result<bool, SinkError>
     ensures written { IsWritten (S.taken out.old) (S.taken out.new) (S.failures out.old) (S.failures out.new) result
-        (name_field task.labels.names name.now ++ (decimal (selected_count (dictionary_of searcher.now) searcher.now.folds task.inverts (lines_of task.labels.end text.now)) ++ 10 ∷ [])) }
-    ensures selected { IfOk result (λ b. b ≡ has_selected (dictionary_of searcher.now) searcher.now.folds task.inverts (lines_of task.labels.end text.now)) }
+        (name_field task.labels.names name.now ++ (decimal (selected_count (sought_of searcher.now) task.inverts (lines_of task.labels.end text.now)) ++ 10 ∷ [])) }
+    ensures selected { IfOk result (λ b. b ≡ has_selected (sought_of searcher.now) task.inverts (lines_of task.labels.end text.now)) }
 {
     let count = count_selected(searcher, task.inverts, task.labels.end, text);
     write_count(task.labels.names, name, count, out)?;
@@ -93,8 +96,8 @@ fn write_selected_name<S: Sink, A: Allocator>(
     out: &mut S,
 ) -> Result<bool, SinkError>
     ensures written { IsWritten (S.taken out.old) (S.taken out.new) (S.failures out.old) (S.failures out.new) result
-        (if has_selected (dictionary_of searcher.now) searcher.now.folds inverts (lines_of mark text.now) then name.now ++ 10 ∷ [] else []) }
-    ensures selected { IfOk result (λ b. b ≡ has_selected (dictionary_of searcher.now) searcher.now.folds inverts (lines_of mark text.now)) }
+        (if has_selected (sought_of searcher.now) inverts (lines_of mark text.now) then name.now ++ 10 ∷ [] else []) }
+    ensures selected { IfOk result (λ b. b ≡ has_selected (sought_of searcher.now) inverts (lines_of mark text.now)) }
 {
     if !any_selected(searcher, inverts, mark, text) {
         return Ok(false);
@@ -110,7 +113,7 @@ fn count_selected<A: Allocator>(
     mark: u8,
     text: &[u8],
 ) -> usize
-    ensures { result ≡ selected_count (dictionary_of searcher.now) searcher.now.folds inverts (lines_of mark text.now) }
+    ensures { result ≡ selected_count (sought_of searcher.now) inverts (lines_of mark text.now) }
 {
     let mut count = 0usize;
     for line in Lines::new(text, mark) {
@@ -123,7 +126,7 @@ fn count_selected<A: Allocator>(
 
 // Whether a line is selected.
 fn any_selected<A: Allocator>(searcher: &Searcher<A>, inverts: bool, mark: u8, text: &[u8]) -> bool
-    ensures { result ≡ has_selected (dictionary_of searcher.now) searcher.now.folds inverts (lines_of mark text.now) }
+    ensures { result ≡ has_selected (sought_of searcher.now) inverts (lines_of mark text.now) }
 {
     for line in Lines::new(text, mark) {
         if searcher.selects(inverts, line.bytes) {
@@ -136,18 +139,19 @@ fn any_selected<A: Allocator>(searcher: &Searcher<A>, inverts: bool, mark: u8, t
 // Writes each selected line, or its matches, and returns whether there is one.
 fn write_selected<S: Sink, A: Allocator>(
     searcher: &Searcher<A>,
+    rules: &[&[u8]],
     task: Task,
     name: &str,
     text: &[u8],
     out: &mut S,
 ) -> Result<bool, SinkError>
     ensures written { IsWritten (S.taken out.old) (S.taken out.new) (S.failures out.old) (S.failures out.new) result
-        (lines_text (dictionary_of searcher.now) searcher.now.folds task name.now (lines_of task.labels.end text.now)) }
-    ensures selected { IfOk result (λ b. b ≡ has_selected (dictionary_of searcher.now) searcher.now.folds task.inverts (lines_of task.labels.end text.now)) }
+        (lines_text (sought_of searcher.now) (map (λ r. r.now) rules.now) task name.now (lines_of task.labels.end text.now)) }
+    ensures selected { IfOk result (λ b. b ≡ has_selected (sought_of searcher.now) task.inverts (lines_of task.labels.end text.now)) }
 {
     let mut any = false;
     for line in Lines::new(text, task.labels.end) {
-        let is_selected = write_if_selected(searcher, task, name, line, out)?;
+        let is_selected = write_if_selected(searcher, rules, task, name, line, out)?;
         any = any | is_selected;
     }
     Ok(any)
@@ -156,59 +160,126 @@ fn write_selected<S: Sink, A: Allocator>(
 // Writes a line, if it is selected, and returns whether it is.
 fn write_if_selected<S: Sink, A: Allocator>(
     searcher: &Searcher<A>,
+    rules: &[&[u8]],
     task: Task,
     name: &str,
     line: Line,
     out: &mut S,
 ) -> Result<bool, SinkError>
     ensures written { IsWritten (S.taken out.old) (S.taken out.new) (S.failures out.old) (S.failures out.new) result
-        (part_of_line (dictionary_of searcher.now) searcher.now.folds task name.now (seen line.entry)) }
-    ensures selected { IfOk result (λ b. b ≡ is_selected (dictionary_of searcher.now) searcher.now.folds task.inverts line.entry.bytes.now) }
+        (part_of_line (sought_of searcher.now) (map (λ r. r.now) rules.now) task name.now (seen line.entry)) }
+    ensures selected { IfOk result (λ b. b ≡ is_selected (sought_of searcher.now) task.inverts line.entry.bytes.now) }
 {
     if !searcher.selects(task.inverts, line.bytes) {
         return Ok(false);
     }
-    write_line(searcher, task, name, line, out)?;
+    write_line(searcher, rules, task, name, line, out)?;
     Ok(true)
 }
 
 fn write_line<S: Sink, A: Allocator>(
     searcher: &Searcher<A>,
+    rules: &[&[u8]],
     task: Task,
     name: &str,
     line: Line,
     out: &mut S,
 ) -> Result<(), SinkError>
     ensures { IsWritten (S.taken out.old) (S.taken out.new) (S.failures out.old) (S.failures out.new) result
-        (line_text (dictionary_of searcher.now) searcher.now.folds task.labels name.now task.report (seen line.entry)) }
+        (line_text (sought_of searcher.now) (map (λ r. r.now) rules.now) task.labels name.now task.report (seen line.entry)) }
 {
     match task.report {
-        Report::Lines => {
-            write_entry(task.labels, name, line.number, line.start, line.bytes, out)
-        }
-        Report::Matches => write_matches(searcher, task.labels, name, line, out),
+        Report::Lines => write_whole_line(searcher, rules, task.labels, name, line, out),
+        Report::Matches => write_matches(searcher, rules, task.labels, name, line, out),
         Report::Count | Report::Name | Report::Nothing => Ok(()),
     }
 }
 
-fn write_matches<S: Sink, A: Allocator>(
+// Writes a line behind the value of its first match.
+fn write_whole_line<S: Sink, A: Allocator>(
     searcher: &Searcher<A>,
+    rules: &[&[u8]],
     labels: Labels,
     name: &str,
     line: Line,
     out: &mut S,
 ) -> Result<(), SinkError>
     ensures { IsWritten (S.taken out.old) (S.taken out.new) (S.failures out.old) (S.failures out.new) result
-        (matches_text (dictionary_of searcher.now) searcher.now.folds labels name.now (seen line.entry)) }
+        (entry labels name.now line.entry.number line.entry.start (first_value (map (λ r. r.now) rules.now) (matches_in (sought_of searcher.now) line.entry.bytes.now)) line.entry.bytes.now) }
+{
+    let value = line_value(labels.values, searcher, rules, line.bytes);
+    write_entry(
+        labels,
+        name,
+        line.number,
+        line.start,
+        value,
+        line.bytes,
+        out,
+    )
+}
+
+// The value of a line, if it is wanted.
+fn line_value<'r, A: Allocator>(
+    is_wanted: bool,
+    searcher: &Searcher<A>,
+    rules: &[&'r [u8]],
+    line: &[u8],
+) -> &'r [u8]
+    ensures { result.now ≡ (if is_wanted then first_value (map (λ r. r.now) rules.now) (matches_in (sought_of searcher.now) line.now) else []) }
+{
+    if is_wanted {
+        first_value(searcher, rules, line)
+    } else {
+        &[]
+    }
+}
+
+// The value of the first match in a line.
+fn first_value<'r, A: Allocator>(
+    searcher: &Searcher<A>,
+    rules: &[&'r [u8]],
+    line: &[u8],
+) -> &'r [u8]
+    ensures { result.now ≡ first_value (map (λ r. r.now) rules.now) (matches_in (sought_of searcher.now) line.now) }
+{
+    match searcher.matches(line).next() {
+        Some(found) => match_value(rules, found),
+        None => &[],
+    }
+}
+
+// The value of a match, if it is wanted.
+fn wanted_value<'r>(is_wanted: bool, rules: &[&'r [u8]], found: Match<u32>) -> &'r [u8]
+    ensures { result.now ≡ (if is_wanted then match_value (map (λ r. r.now) rules.now) found else []) }
+{
+    if is_wanted {
+        match_value(rules, found)
+    } else {
+        &[]
+    }
+}
+
+fn write_matches<S: Sink, A: Allocator>(
+    searcher: &Searcher<A>,
+    rules: &[&[u8]],
+    labels: Labels,
+    name: &str,
+    line: Line,
+    out: &mut S,
+) -> Result<(), SinkError>
+    ensures { IsWritten (S.taken out.old) (S.taken out.new) (S.failures out.old) (S.failures out.new) result
+        (matches_text (sought_of searcher.now) (map (λ r. r.now) rules.now) labels name.now (seen line.entry)) }
 {
     for found in searcher.matches(line.bytes) {
-        write_match(labels, name, line, found, out)?;
+        write_match(rules, labels, name, line, found, out)?;
     }
     Ok(())
 }
 
 // Writes a match, unless it is empty.
 fn write_match<S: Sink>(
+    rules: &[&[u8]],
     labels: Labels,
     name: &str,
     line: Line,
@@ -218,18 +289,30 @@ fn write_match<S: Sink>(
     requires ordered { found.start ≤ found.end }
     requires within { found.end ≤ length line.bytes.now }
     ensures { IsWritten (S.taken out.old) (S.taken out.new) (S.failures out.old) (S.failures out.new) result
-        (match_text labels name.now (seen line.entry) found) }
+        (match_text (map (λ r. r.now) rules.now) labels name.now (seen line.entry) found) }
 {
     if found.start == found.end {
         return Ok(());
     }
+    write_part(rules, labels, name, line, found, out)
+}
+
+// Writes the part of a line that a match takes.
+fn write_part<S: Sink>(
+    rules: &[&[u8]],
+    labels: Labels,
+    name: &str,
+    line: Line,
+    found: Match<u32>,
+    out: &mut S,
+) -> Result<(), SinkError>
+    requires ordered { found.start ≤ found.end }
+    requires within { found.end ≤ length line.bytes.now }
+    ensures { IsWritten (S.taken out.old) (S.taken out.new) (S.failures out.old) (S.failures out.new) result
+        (entry labels name.now line.entry.number (line.entry.start + found.start) (match_value (map (λ r. r.now) rules.now) found) (slice_range line.entry.bytes.now found.start found.end)) }
+{
+    let value = wanted_value(labels.values, rules, found);
+    let place = line.start + found.start;
     let text = &line.bytes[found.start..found.end];
-    write_entry(
-        labels,
-        name,
-        line.number,
-        line.start + found.start,
-        text,
-        out,
-    )
+    write_entry(labels, name, line.number, place, value, text, out)
 }

@@ -1,24 +1,17 @@
 //! The search for patterns in a line.
 
-ghost use Rattle.std.specs.Prelude.{◌≡◌, ◌≢◌, IfOk, map};
-ghost use Rattle.daacfind_command.specs.Runs.{value_gives};
-ghost use Rattle.daachorse_model.specs.declared.MatchKind.TheVariants.{Standard};
-ghost use Rattle.daachorse_model.specs.Folding.{as_read};
-ghost use Rattle.daachorse_model.specs.Leftmost.{leftmost};
-ghost use Rattle.daachorse_model.specs.Units.{byte_width};
-ghost use Rattle.daachorse_bytewise.specs.Automata.{dictionary_of, kind_of};
-ghost use Rattle.daachorse_bytewise.specs.Building.{IsBuiltOf};
+ghost use Rattle.std.specs.Prelude.{◌≡◌};
 ghost use Rattle.daacgrep_command.specs.Printed.{is_selected, occurs};
+ghost use Rattle.daacgrep_command.specs.Sought.{matches_in, sought_of};
 
 use daachorse::bytewise::Accelerated;
-use daachorse::bytewise::accelerated::RowedLeftmost;
-use daachorse::bytewise::iter::LeftmostFindIterator;
-use daachorse::errors::DaachorseError;
-use daachorse::{DoubleArrayAhoCorasick, DoubleArrayAhoCorasickBuilder, Match, MatchKind};
+use daachorse::bytewise::accelerated::{RowedLeftmost, RowedStandard};
+use daachorse::bytewise::iter::{FindOverlappingSliceIterator, LeftmostFindIterator};
+use daachorse::{DoubleArrayAhoCorasick, Match, MatchKind};
 use std::alloc::Allocator;
 use std::marker::Model;
 
-/// An automaton for leftmost searches, over rows of states if there is room for them.
+/// An automaton, over rows of states if there is room for them.
 #[derive(Drop)]
 pub struct Searcher<A: Allocator> {
     kept: Kept<A>,
@@ -31,9 +24,8 @@ enum Kept<A: Allocator> {
 }
 
 impl<A: Allocator> Model for Searcher<A> {
-    ghost use Rattle.std.specs.Prelude.{ℕ, ◌≢◌};
-    ghost use Rattle.daachorse_model.specs.declared.MatchKind.TheVariants.{Standard};
-    ghost use Rattle.daachorse_bytewise.specs.Automata.{Automaton, kind_of};
+    ghost use Rattle.std.specs.Prelude.{ℕ};
+    ghost use Rattle.daachorse_bytewise.specs.Automata.{Automaton};
     ghost use Rattle.daacgrep_command.specs.declared.searcher.Kept.TheVariants.{Plain, Rows};
 
     ghost Value = { Automaton ℕ };
@@ -42,35 +34,11 @@ impl<A: Allocator> Model for Searcher<A> {
       | Plain automaton ↦ automaton
       | Rows searcher ↦ searcher.automaton
     ] };
-
-    ghost invariant = { λ s. elim s.kept [
-      | Plain automaton ↦ kind_of automaton ≢ Standard
-      | Rows searcher ↦ kind_of searcher.automaton ≢ Standard
-    ] };
 }
 
 impl<A: Allocator + Copy> Searcher<A> {
-    /// Builds the automaton of the patterns, each with its number as its value. Fails if the build
-    /// refuses them, or if an allocation fails.
-    pub fn new(
-        alloc: A,
-        kind: MatchKind,
-        folds: bool,
-        patterns: &[&[u8]],
-    ) -> Result<Self, DaachorseError>
-        requires { kind ≢ Standard }
-        ensures { IfOk result (IsBuiltOf value_gives kind folds (map (λ p. p.now) patterns.now)) }
-    {
-        let builder = DoubleArrayAhoCorasickBuilder::new()
-            .match_kind(kind)
-            .ascii_case_insensitive(folds);
-        let automaton = builder.build(alloc, patterns.iter().copied())?;
-        Ok(Searcher::over(alloc, automaton))
-    }
-
-    // With rows of states, unless they are refused.
-    fn over(alloc: A, automaton: DoubleArrayAhoCorasick<u32, A>) -> Self
-        requires { kind_of automaton ≢ Standard }
+    /// Makes rows of states for the automaton, unless they are refused.
+    pub fn new(alloc: A, automaton: DoubleArrayAhoCorasick<u32, A>) -> Self
         ensures { result ≡ automaton }
     {
         match automaton.accelerate(alloc) {
@@ -88,7 +56,7 @@ impl<A: Allocator> Searcher<A> {
     /// Returns whether a pattern occurs in the line.
     #[inline]
     pub fn is_match(&self, line: &[u8]) -> bool
-        ensures { result ≡ occurs (dictionary_of self.now) self.now.folds line.now }
+        ensures { result ≡ occurs (sought_of self.now) line.now }
     {
         match &self.kept {
             Kept::Plain(automaton) => automaton.is_match(line),
@@ -99,25 +67,55 @@ impl<A: Allocator> Searcher<A> {
     /// Returns whether the line is selected: it has a match, or with `inverts` none.
     #[inline]
     pub fn selects(&self, inverts: bool, line: &[u8]) -> bool
-        ensures { result ≡ is_selected (dictionary_of self.now) self.now.folds inverts line.now }
+        ensures { result ≡ is_selected (sought_of self.now) inverts line.now }
     {
         let is_match = self.is_match(line);
         if inverts { !is_match } else { is_match }
     }
 
-    /// The leftmost matches in the line.
+    /// The matches in the line: all of them, or the leftmost ones, as the automaton's kind says.
     #[inline]
     pub fn matches<'a>(&'a self, line: &'a [u8]) -> Found<'a, A>
-        ensures { result ≡ leftmost byte_width (dictionary_of self.entry.now) (as_read self.entry.now.folds line.entry.now) }
+        ensures { result ≡ matches_in (sought_of self.entry.now) line.entry.now }
     {
         match &self.kept {
-            Kept::Plain(automaton) => Found {
-                search: Search::Plain(automaton.leftmost_find_iter(line)),
-            },
-            Kept::Rows(searcher) => Found {
-                search: Search::Rows(searcher.leftmost_find_iter(line)),
-            },
+            Kept::Plain(automaton) => plain_matches(automaton, line),
+            Kept::Rows(searcher) => rowed_matches(searcher, line),
         }
+    }
+}
+
+#[inline]
+fn plain_matches<'a, A: Allocator>(
+    automaton: &'a DoubleArrayAhoCorasick<u32, A>,
+    line: &'a [u8],
+) -> Found<'a, A>
+    ensures { result ≡ matches_in (sought_of automaton.entry.now) line.entry.now }
+{
+    match automaton.match_kind() {
+        MatchKind::Standard => Found {
+            search: Search::Overlapping(automaton.find_overlapping_iter(line)),
+        },
+        MatchKind::LeftmostLongest | MatchKind::LeftmostFirst => Found {
+            search: Search::Leftmost(automaton.leftmost_find_iter(line)),
+        },
+    }
+}
+
+#[inline]
+fn rowed_matches<'a, A: Allocator>(
+    searcher: &'a Accelerated<u32, A>,
+    line: &'a [u8],
+) -> Found<'a, A>
+    ensures { result ≡ matches_in (sought_of searcher.entry.now.automaton) line.entry.now }
+{
+    match searcher.match_kind() {
+        MatchKind::Standard => Found {
+            search: Search::RowedOverlapping(searcher.find_overlapping_iter(line)),
+        },
+        MatchKind::LeftmostLongest | MatchKind::LeftmostFirst => Found {
+            search: Search::RowedLeftmost(searcher.leftmost_find_iter(line)),
+        },
     }
 }
 
@@ -125,28 +123,34 @@ impl<A: Allocator> Searcher<A> {
 #[derive(Drop)]
 pub struct Found<'a, A: Allocator> {
     search: Search<
+        FindOverlappingSliceIterator<'a, u32, A>,
         LeftmostFindIterator<'a, u32, A>,
+        FindOverlappingSliceIterator<'a, u32, A, RowedStandard<'a, u32>>,
         LeftmostFindIterator<'a, u32, A, RowedLeftmost<'a, u32>>,
     >,
 }
 
 /// Each search is compiled by itself.
 #[derive(Drop)]
-enum Search<P, R> {
-    Plain(P),
-    Rows(R),
+enum Search<O, L, R, T> {
+    Overlapping(O),
+    Leftmost(L),
+    RowedOverlapping(R),
+    RowedLeftmost(T),
 }
 
 impl<'a, A: Allocator> Model for Found<'a, A> {
     ghost use Rattle.std.specs.Prelude.{List, ℕ};
     ghost use Rattle.daachorse_model.specs.declared.Match.{Match};
-    ghost use Rattle.daacgrep_command.specs.declared.searcher.Search.TheVariants.{Plain, Rows};
+    ghost use Rattle.daacgrep_command.specs.declared.searcher.Search.TheVariants.{Overlapping, Leftmost, RowedOverlapping, RowedLeftmost};
 
     ghost Value = { List (Match ℕ) };
 
     ghost view = { λ s. elim s.search [
-      | Plain matches ↦ matches.left
-      | Rows matches ↦ matches.left
+      | Overlapping matches ↦ matches.left
+      | Leftmost matches ↦ matches.left
+      | RowedOverlapping matches ↦ matches.left
+      | RowedLeftmost matches ↦ matches.left
     ] };
 
     ghost invariant = { λ s. Unit {0} };
@@ -164,8 +168,10 @@ impl<'a, A: Allocator> Iterator for Found<'a, A> {
     #[inline(always)]
     fn next(&mut self) -> Option<Match<u32>> {
         match &mut self.search {
-            Search::Plain(matches) => matches.next(),
-            Search::Rows(matches) => matches.next(),
+            Search::Overlapping(matches) => matches.next(),
+            Search::Leftmost(matches) => matches.next(),
+            Search::RowedOverlapping(matches) => matches.next(),
+            Search::RowedLeftmost(matches) => matches.next(),
         }
     }
 }

@@ -4,30 +4,53 @@ ghost use Rattle.std.specs.Prelude.{None};
 
 use crate::expect;
 use daacfind_command::inputs::Inputs;
-use daacfind_command::sink::WriterSink;
+use daacfind_command::sink::{SinkError, WriterSink};
 use daacgrep_command::command::command;
+use daacgrep_command::outputs::Outputs;
 use std::alloc::Global;
 use std::io::{self, Write};
 
-/// A few files in memory.
+/// A few files in memory, one of them the automaton.
 #[derive(Drop)]
-struct Memory {
+struct Memory<'a> {
     alloc: Global,
+    automaton: &'a [u8],
 }
 
-impl Inputs for Memory {
+impl Inputs for Memory<'_> {
     ghost given = { λ _. None };
 
     fn read(&mut self, name: &str) -> Option<Vec<u8>> {
         match name {
+            "rules" => Vec::from_slice(self.alloc, b"ab\tletters\nerror\tbad\tword\nfine\n").ok(),
             "words" => Vec::from_slice(self.alloc, b"ab\nerror\n").ok(),
             "log" | "-" => Vec::from_slice(self.alloc, b"an error\nfine\nabab\n").ok(),
             "open" => Vec::from_slice(self.alloc, b"shut\nopen").ok(),
             "returns" => Vec::from_slice(self.alloc, b"fine\r\nabab\r\n").ok(),
             "records" => Vec::from_slice(self.alloc, b"a b\nab\0fine\0ab").ok(),
             "empty" => Some(Vec::new(self.alloc)),
+            "automaton" => Vec::from_slice(self.alloc, self.automaton).ok(),
             _ => None,
         }
+    }
+}
+
+/// The file that was written last.
+#[derive(Drop)]
+struct Store {
+    alloc: Global,
+    bytes: Vec<u8>,
+}
+
+impl Outputs for Store {
+    ghost saved = { λ _. None };
+
+    fn write(&mut self, name: &str, bytes: &[u8]) -> Result<(), SinkError> {
+        if name == "locked" {
+            return Err(SinkError);
+        }
+        self.bytes = Vec::from_slice(self.alloc, bytes).map_err(|_| SinkError)?;
+        Ok(())
     }
 }
 
@@ -125,11 +148,70 @@ const ROWS: &[Row] = &[
         told: "",
     },
     Row {
+        shows: "all matches",
+        words: &[
+            "--overlapping",
+            "-ob",
+            "-e",
+            "ab",
+            "-e",
+            "aba",
+            "-e",
+            "b",
+            "log",
+        ],
+        status: 0,
+        written: "14:ab\n15:b\n14:aba\n16:ab\n17:b\n",
+        told: "",
+    },
+    Row {
+        shows: "all matches, asked for beside others",
+        words: &[
+            "--overlapping",
+            "--first",
+            "--longest",
+            "-o",
+            "-e",
+            "ab",
+            "-e",
+            "aba",
+            "log",
+        ],
+        status: 0,
+        written: "ab\naba\nab\n",
+        told: "",
+    },
+    Row {
+        shows: "lines by all matches",
+        words: &["--overlapping", "-n", "-f", "words", "log"],
+        status: 0,
+        written: "1:an error\n3:abab\n",
+        told: "",
+    },
+    Row {
+        shows: "the values of all matches",
+        words: &[
+            "--overlapping",
+            "--values",
+            "-oi",
+            "-e",
+            "AB\tone",
+            "-e",
+            "aba\ttwo",
+            "-e",
+            "ab\tthree",
+            "log",
+        ],
+        status: 0,
+        written: "one:ab\nthree:ab\ntwo:aba\none:ab\nthree:ab\n",
+        told: "",
+    },
+    Row {
         shows: "carriage returns in a file of patterns",
         words: &["-n", "-f", "returns", "-e", "err", "log", "returns"],
         status: 0,
         written: "log:1:an error\nreturns:1:fine\r\nreturns:2:abab\r\n",
-        told: "daacgrep: a pattern ends with a carriage return, which is part of it\n",
+        told: "daacgrep: a line of patterns ends with a carriage return, which is part of it\n",
     },
     Row {
         shows: "lines that end with zero bytes",
@@ -150,6 +232,41 @@ const ROWS: &[Row] = &[
         words: &["--null-data", "-cv", "-f", "words", "records"],
         status: 0,
         written: "1\n",
+        told: "",
+    },
+    Row {
+        shows: "values behind a tab",
+        words: &["--values", "-f", "rules", "log"],
+        status: 0,
+        written: "bad\tword:an error\n:fine\nletters:abab\n",
+        told: "",
+    },
+    Row {
+        shows: "values of matches behind their names, numbers and places",
+        words: &["-Hnob", "--values", "-f", "rules", "log"],
+        status: 0,
+        written: "log:1:3:bad\tword:error\nlog:2:9::fine\nlog:3:14:letters:ab\nlog:3:16:letters:ab\n",
+        told: "",
+    },
+    Row {
+        shows: "the value of the first match in a line",
+        words: &["--values", "-e", "error\tlast", "-e", "an\tfirst", "log"],
+        status: 0,
+        written: "first:an error\n",
+        told: "",
+    },
+    Row {
+        shows: "no value of a line without a match",
+        words: &["-v", "--values", "-e", "ab\tletters", "log"],
+        status: 0,
+        written: ":an error\n:fine\n",
+        told: "",
+    },
+    Row {
+        shows: "a tab in a pattern without a value",
+        words: &["-c", "-e", "ab\tletters", "log"],
+        status: 1,
+        written: "0\n",
         told: "",
     },
     Row {
@@ -297,7 +414,7 @@ const ROWS: &[Row] = &[
         words: &["log"],
         status: 2,
         written: "",
-        told: "daacgrep: no pattern: -e PATTERN or -f FILE is wanted; see daacgrep --help\n",
+        told: "daacgrep: no pattern: -e PATTERN, -f FILE or --load FILE is wanted; see daacgrep --help\n",
     },
     Row {
         shows: "an unknown letter",
@@ -336,12 +453,16 @@ const ROWS: &[Row] = &[
     },
 ];
 
-// Whether the command ends as the row says.
-fn ends_so(alloc: Global, row: &Row) -> bool {
-    let mut files = Memory { alloc };
+// Whether the command ends as the row says, with this automaton as a file.
+fn ends_so(alloc: Global, automaton: &[u8], row: &Row) -> bool {
+    let mut files = Memory { alloc, automaton };
+    let mut saved = Store {
+        alloc,
+        bytes: Vec::new(alloc),
+    };
     let mut out = WriterSink::new(Vec::new(alloc));
     let mut err = WriterSink::new(Vec::new(alloc));
-    let status = command(alloc, row.words, &mut files, &mut out, &mut err);
+    let status = command(alloc, row.words, &mut files, &mut saved, &mut out, &mut err);
     status == row.status
         && out.writer().as_slice() == row.written.as_bytes()
         && err.writer().as_slice() == row.told.as_bytes()
@@ -350,7 +471,181 @@ fn ends_so(alloc: Global, row: &Row) -> bool {
 #[test]
 fn each_option_prints_its_text(rt: HostRuntime) {
     for row in ROWS {
-        expect(&rt, ends_so(rt.alloc(), row), row.shows);
+        expect(&rt, ends_so(rt.alloc(), b"", row), row.shows);
+    }
+}
+
+// The words by which an automaton is saved, and a row by which it is loaded.
+#[derive(Clone, Copy)]
+struct LoadRow {
+    saving: &'static [&'static str],
+    row: Row,
+}
+
+const LOAD_ROWS: &[LoadRow] = &[
+    LoadRow {
+        saving: &["--save", "automaton", "-f", "words"],
+        row: Row {
+            shows: "lines by an automaton that was saved",
+            words: &["-n", "--load", "automaton", "log"],
+            status: 0,
+            written: "1:an error\n3:abab\n",
+            told: "",
+        },
+    },
+    LoadRow {
+        saving: &[
+            "-i",
+            "--overlapping",
+            "-e",
+            "AB",
+            "-e",
+            "ABA",
+            "--save",
+            "lost",
+            "--save",
+            "automaton",
+        ],
+        row: Row {
+            shows: "matches by an automaton that was saved with options",
+            words: &[
+                "-oi",
+                "--overlapping",
+                "--load",
+                "lost",
+                "--load",
+                "automaton",
+                "log",
+            ],
+            status: 0,
+            written: "ab\naba\nab\n",
+            told: "",
+        },
+    },
+    LoadRow {
+        saving: &["--first", "-e", "ab", "-e", "aba", "--save", "automaton"],
+        row: Row {
+            shows: "an automaton that was saved with other options",
+            words: &["-o", "--load", "automaton", "log"],
+            status: 2,
+            written: "",
+            told: "daacgrep: automaton was saved with other options: -i, --first and --overlapping must be as there\n",
+        },
+    },
+    LoadRow {
+        saving: &["--values", "-f", "rules", "--save", "automaton"],
+        row: Row {
+            shows: "values beside an automaton that was saved",
+            words: &["--values", "-f", "rules", "--load", "automaton", "log"],
+            status: 0,
+            written: "bad\tword:an error\n:fine\nletters:abab\n",
+            told: "",
+        },
+    },
+    LoadRow {
+        saving: &["--values", "-f", "rules", "--save", "automaton"],
+        row: Row {
+            shows: "values without their lines",
+            words: &[
+                "--values",
+                "-e",
+                "ab\tletters",
+                "--load",
+                "automaton",
+                "log",
+            ],
+            status: 2,
+            written: "",
+            told: "daacgrep: --values wants -f beside --load\n",
+        },
+    },
+    LoadRow {
+        saving: &["-f", "words", "--save", "automaton"],
+        row: Row {
+            shows: "patterns beside an automaton that was saved",
+            words: &["-e", "fine", "--load", "automaton", "log"],
+            status: 2,
+            written: "",
+            told: "daacgrep: -e and -f do not go with --load, except for --values\n",
+        },
+    },
+    LoadRow {
+        saving: &["-f", "words", "--save", "automaton"],
+        row: Row {
+            shows: "a file without an automaton",
+            words: &["--load", "words", "log"],
+            status: 2,
+            written: "",
+            told: "daacgrep: cannot load words: InvalidAutomatonError: invalid serialized automaton\n",
+        },
+    },
+    LoadRow {
+        saving: &["-f", "words", "--save", "automaton"],
+        row: Row {
+            shows: "an automaton that cannot be read",
+            words: &["--load", "lost", "log"],
+            status: 2,
+            written: "",
+            told: "daacgrep: cannot read lost\n",
+        },
+    },
+    LoadRow {
+        saving: &["-f", "words", "--save", "automaton"],
+        row: Row {
+            shows: "an automaton that cannot be written",
+            words: &["--load", "automaton", "--save", "locked"],
+            status: 2,
+            written: "",
+            told: "daacgrep: cannot write locked\n",
+        },
+    },
+    LoadRow {
+        saving: &["-f", "words", "--save", "automaton"],
+        row: Row {
+            shows: "a file that is searched beside one that is written",
+            words: &["-f", "words", "--save", "automaton", "log"],
+            status: 2,
+            written: "",
+            told: "daacgrep: --save searches no file\n",
+        },
+    },
+    LoadRow {
+        saving: &["-f", "words", "--save", "automaton"],
+        row: Row {
+            shows: "no name behind --load",
+            words: &["log", "--load"],
+            status: 2,
+            written: "",
+            told: "daacgrep: --load has no argument\n",
+        },
+    },
+];
+
+// Whether an automaton is saved without a word, and the command then ends as the row says.
+fn loads_so(alloc: Global, row: &LoadRow) -> bool {
+    let mut files = Memory {
+        alloc,
+        automaton: b"",
+    };
+    let mut saved = Store {
+        alloc,
+        bytes: Vec::new(alloc),
+    };
+    let mut out = WriterSink::new(Vec::new(alloc));
+    let mut err = WriterSink::new(Vec::new(alloc));
+    let status = command(
+        alloc, row.saving, &mut files, &mut saved, &mut out, &mut err,
+    );
+    status == 0
+        && out.writer().is_empty()
+        && err.writer().is_empty()
+        && ends_so(alloc, &saved.bytes, &row.row)
+}
+
+#[test]
+fn a_saved_automaton_is_loaded(rt: HostRuntime) {
+    for row in LOAD_ROWS {
+        expect(&rt, loads_so(rt.alloc(), row), row.row.shows);
     }
 }
 
@@ -360,13 +655,20 @@ const WRITTEN: &[u8] = b"log:1:3:error\nlog:3:14:ab\nlog:3:16:ab\n";
 
 // Whether a command whose output takes so many bytes writes just these, and fails if more is left.
 fn halts_so(alloc: Global, left: usize) -> bool {
-    let mut files = Memory { alloc };
+    let mut files = Memory {
+        alloc,
+        automaton: b"",
+    };
+    let mut saved = Store {
+        alloc,
+        bytes: Vec::new(alloc),
+    };
     let mut out = WriterSink::new(Halting {
         left,
         taken: Vec::new(alloc),
     });
     let mut err = WriterSink::new(Vec::new(alloc));
-    let status = command(alloc, WORDS, &mut files, &mut out, &mut err);
+    let status = command(alloc, WORDS, &mut files, &mut saved, &mut out, &mut err);
     let taken = out.writer().taken.as_slice();
     if left < WRITTEN.len() {
         status == 2

@@ -1,27 +1,58 @@
--- The usage and the version are told; else the files are searched for the patterns.
-use Rattle.std.proofs.Common.{◌≡◌, inl, refl}
+-- The usage and the version are told; else the automaton is saved, or the files are searched.
+use Rattle.std.proofs.Common.{◌≡◌, ℕ, List, inl, map, refl, ap, sym, ◌∙◌}
+use Rattle.std.specs.Borrow.{Bor}
 use Rattle.std.proofs.KnownBytes.{Keeps-refl}
 use Rattle.std.proofs.lemmas.Result.{err_from_is_err_and}
-use Rattle.daacgrep_command.proofs.Asking.{ends_searched, ends_told, tells_nothing, tells_usage, tells_version}
+use Rattle.daachorse_model.specs.Program.{pattern_lines}
+use Rattle.daacgrep_command.specs.Asked.{rules_asked}
+use Rattle.daacgrep_command.proofs.Asking.{ends_saved, ends_searched, ends_told, tells_nothing, tells_usage, tells_version}
 use Rattle.daacgrep_command.proofs.command.answer.Goals as goal
 
 pub returns-then-has : goal.returns-then-has
 returns-then-has g c =
     let o = c.args.options.now in
-    ends_told o (g.I.Inputs.given c.args.files.now) _ _ _ _ c.told.result _ (tells_usage o.flags c.has.result c.has.ensures c.if-has.true) c.told.ensures.written c.told.ensures.status
+    ends_told o (g.I.Inputs.given c.args.files.now) _ _ _ _ _ c.told.result _ (tells_usage o.flags c.has.result c.has.ensures c.if-has.true) c.told.ensures.written c.told.ensures.status
 
 pub returns-then-has-2 : goal.returns-then-has-2
 returns-then-has-2 g c =
     let o = c.args.options.now in
-    ends_told o (g.I.Inputs.given c.args.files.now) _ _ _ _ c.told-then-has-2.result _ (tells_version o.flags c.has.result c.has-2.result c.has.ensures c.if-has.false c.has-2.ensures c.if-has-2.true) c.told-then-has-2.ensures.written c.told-then-has-2.ensures.status
+    ends_told o (g.I.Inputs.given c.args.files.now) _ _ _ _ _ c.told-then-has-2.result _ (tells_version o.flags c.has.result c.has-2.result c.has.ensures c.if-has.false c.has-2.ensures c.if-has-2.true) c.told-then-has-2.ensures.written c.told-then-has-2.ensures.status
 
-pub returns-in_err-searcher : goal.returns-in_err-searcher
-returns-in_err-searcher g c =
+pub returns-in_err-text : goal.returns-in_err-text
+returns-in_err-text g c =
     let p = err_from_is_err_and c.from_residual.result c.from_residual.ensures.1 in
-    rw p.1 (inl (Keeps-refl _, refl))
+    rw p.1 (inl (Keeps-refl _, refl, refl))
+
+pub returns-in_err-rules : goal.returns-in_err-rules
+returns-in_err-rules g c =
+    let p = err_from_is_err_and c.from_residual-in_err-rules.result c.from_residual-in_err-rules.ensures.1 in
+    rw p.1 (inl (Keeps-refl _, refl, refl))
+
+pub returns-in_err-automaton : goal.returns-in_err-automaton
+returns-in_err-automaton g c =
+    let p = err_from_is_err_and c.from_residual-in_err-automaton.result c.from_residual-in_err-automaton.ensures.1 in
+    rw p.1 (inl (Keeps-refl _, refl, refl))
+
+pub returns-in-Some : goal.returns-in-Some
+returns-in-Some g c =
+    let o = c.args.options.now in
+    let given = g.I.Inputs.given c.args.files.now in
+    let rules = map (λ (r : Bor (List ℕ)). r.now) c.in_ok-rules.rules.items in
+    let gives = c.in_ok-text.ensures.ok in
+    let told = tells_nothing o.flags c.has.result c.has-2.result c.has.ensures c.if-has.false c.has-2.ensures c.if-has-2.false in
+    let is_asked = rw (c.in_ok-text.ensures.given, c.deref-2.ensures.value) at c.in_ok-automaton.ensures.ok in
+    let are_rules : rules ≡ rules_asked o gives.files = c.in_ok-rules.ensures ∙ ap pattern_lines (c.deref.ensures.value ∙ gives.is) in
+    let s = c.save.ensures in
+    ends_saved o given _ _ _ _ _ gives rules c.in_ok-automaton.automaton c.in-Some.name.now c.save.result c.in_ok-text.ensures.named told are_rules is_asked (sym c.in-Some.ensures) s.status s.automaton s.stored s.kept
 
 pub returns : goal.returns
 returns g c =
     let o = c.args.options.now in
-    let k = c.in_ok-searcher in
-    ends_searched o (g.I.Inputs.given c.args.files.now) _ _ _ _ k.searcher c.search.result (tells_nothing o.flags c.has.result c.has-2.result c.has.ensures c.if-has.false c.has-2.ensures c.if-has-2.false) k.ensures.ok (rw k.ensures.given at c.search.ensures)
+    let given = g.I.Inputs.given c.args.files.now in
+    let rules = map (λ (r : Bor (List ℕ)). r.now) c.in_ok-rules.rules.items in
+    let gives = c.in_ok-text.ensures.ok in
+    let told = tells_nothing o.flags c.has.result c.has-2.result c.has.ensures c.if-has.false c.has-2.ensures c.if-has-2.false in
+    let is_asked = rw (c.in_ok-text.ensures.given, c.deref-2.ensures.value) at c.in_ok-automaton.ensures.ok in
+    let are_rules : rules ≡ rules_asked o gives.files = c.in_ok-rules.ensures ∙ ap pattern_lines (c.deref.ensures.value ∙ gives.is) in
+    let searched = rw (c.in_ok-automaton.ensures.given, c.in_ok-text.ensures.given, c.deref-in-None.ensures.value, c.new-searcher.ensures) at c.search.ensures in
+    ends_searched o given _ gives c.in_ok-text.ensures.named told rules are_rules c.in_ok-automaton.automaton is_asked _ _ _ _ _ c.search.result (sym c.in-None.ensures) searched

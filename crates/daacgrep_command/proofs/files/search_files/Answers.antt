@@ -3,7 +3,7 @@ use Rattle.std.proofs.Common.{◌≡◌, ◌+◌, ℕ, List, [], ◌∷◌, drop
 use Rattle.std.proofs.lemmas.List.{take_all}
 use Rattle.std.proofs.lemmas.Result.{err_from_is_err_and}
 use Rattle.std.specs.Borrow.{Bor}
-use Rattle.daachorse_bytewise.specs.Automata.{dictionary_of}
+use Rattle.daacgrep_command.specs.Sought.{sought_of}
 use Rattle.daacgrep_command.proofs.Asking.{name_at_end, names_more, names_split, searched_cut, searched_none, searched_then}
 use Rattle.daacgrep_command.proofs.files.search_files.Goals as goal
 
@@ -16,12 +16,12 @@ returns-in_err-found g c =
     let p = err_from_is_err_and c.from_residual.result c.from_residual.ensures.1 in
     let here = rw l.invariant.given at c.in_err-found.ensures.searched in
     rw (p.1, names_split names l.name-index name_at_end c.loop-name-test.true)
-    (searched_cut (dictionary_of s) s.folds c.args.task (g.I.Inputs.given c.args.files.now) _ _ _ _ _ _ _ ((get_or names l.name-index name_at_end).now ∷ []) (map (λ (n : Bor (List ℕ)). n.now) (drop (l.name-index + 1) names)) _ _ l.invariant.searched here)
+    (searched_cut (sought_of s) (map (λ (r : Bor (List ℕ)). r.now) c.args.rules.now) c.args.task (g.I.Inputs.given c.args.files.now) _ _ _ _ _ _ _ ((get_or names l.name-index name_at_end).now ∷ []) (map (λ (n : Bor (List ℕ)). n.now) (drop (l.name-index + 1) names)) _ _ l.invariant.searched here)
 
 pub loop-name-init : goal.loop-name-init
 loop-name-init g c =
     let s = c.args.searcher.now in
-    record { given = refl; searched = searched_none (dictionary_of s) s.folds c.args.task (g.I.Inputs.given c.args.files.now) _ _ }
+    record { given = refl; searched = searched_none (sought_of s) (map (λ (r : Bor (List ℕ)). r.now) c.args.rules.now) c.args.task (g.I.Inputs.given c.args.files.now) _ _ }
 
 pub loop-name-preserved : goal.loop-name-preserved
 unfolding name_at_end
@@ -33,7 +33,7 @@ loop-name-preserved g c =
     record {
       given = c.in_ok-found.ensures.given ∙ l.invariant.given;
       searched = rw (names_more names l.name-index name_at_end c.loop-name-test.true, c.and-outcome.ensures)
-          (searched_then (dictionary_of s) s.folds c.args.task (g.I.Inputs.given c.args.files.now) _ _ _ _ _ _ _ ((get_or names l.name-index name_at_end).now ∷ []) _ _ l.invariant.searched here);
+          (searched_then (sought_of s) (map (λ (r : Bor (List ℕ)). r.now) c.args.rules.now) c.args.task (g.I.Inputs.given c.args.files.now) _ _ _ _ _ _ _ ((get_or names l.name-index name_at_end).now ∷ []) _ _ l.invariant.searched here);
     }
 
 pub returns : goal.returns

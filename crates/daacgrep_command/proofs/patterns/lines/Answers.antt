@@ -1,5 +1,5 @@
 -- A line more was taken, or none is left.
-use Rattle.std.proofs.Common.{◌≡◌, ◌++◌, ◌∷◌, [], map, ap, refl, sym, append-nil, ◌∙◌}
+use Rattle.std.proofs.Common.{◌++◌, map, ap, refl, ◌∙◌}
 use Rattle.daachorse_model.specs.Program.{pattern_lines}
 use Rattle.daacgrep_command.specs.Lines.{TextLine, seen}
 use Rattle.daacgrep_command.proofs.Asking.{line_taken, lines_bytes, lines_taken}

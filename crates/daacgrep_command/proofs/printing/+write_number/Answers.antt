@@ -1,5 +1,4 @@
 -- The last digit comes behind the others.
-use Rattle.std.proofs.Common.{[], ◌∷◌}
 use Rattle.std.proofs.lemmas.Result.{err_from_is_err_and}
 use Rattle.std.proofs.lemmas.Fmt.{decimal_digit, decimal_step}
 use Rattle.daacgrep_command.proofs.Writing.{then_more, then_none}

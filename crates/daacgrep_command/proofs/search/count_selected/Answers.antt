@@ -1,7 +1,7 @@
 -- At first all lines are left.
 use Rattle.std.proofs.Common.{zero-add, length, sym, ap, ◌∙◌, arith}
-use Rattle.daachorse_bytewise.specs.Automata.{dictionary_of}
 use Rattle.daacgrep_command.specs.Printed.{selected_count}
+use Rattle.daacgrep_command.specs.Sought.{sought_of}
 use Rattle.daacgrep_command.proofs.Selected.{lines_few}
 use Rattle.daacgrep_command.proofs.search.count_selected.Goals as goal
 
@@ -9,6 +9,6 @@ pub loop-line-init : goal.loop-line-init
 loop-line-init g c =
     let begins = c.into_iter-line-iterator.ensures.into_iter_gives ∙ c.new-line-items.ensures in
     record {
-      counted = ap (selected_count (dictionary_of c.args.searcher.now) c.args.searcher.now.folds c.args.inverts) (sym begins) ∙ sym (zero-add _);
+      counted = ap (selected_count (sought_of c.args.searcher.now) c.args.inverts) (sym begins) ∙ sym (zero-add _);
       few = omega (arith, ap length begins, lines_few c.args.mark c.args.text.now);
     }

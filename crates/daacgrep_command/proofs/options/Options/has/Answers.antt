@@ -1,11 +1,11 @@
 -- Two flags are equal where their places are.
-use Rattle.std.proofs.Common.{◌≡◌, ◌==◌, ℕ, Bool, List, refl, ap, sym, ◌∙◌}
+use Rattle.std.proofs.Common.{◌≡◌, ◌==◌, List, refl, ap, ◌∙◌}
 use denote.Enum.Bare.{sameb}
 use denote.Enum.Declared.{tag_of}
 use Rattle.std.specs.List.{list_any}
 use Rattle.daacgrep_command.specs.contracts.flag.Flag.{the_type}
 use Rattle.daacgrep_command.specs.declared.flag.Flag.{Flag}
-use Rattle.daacgrep_command.specs.declared.flag.Flag.TheVariants.{WithName, NoName, OnlyMatches, Places, Numbers, Count, FileNames, Quiet, IgnoreCase, Invert, NullData, Longest, First, Help, Version}
+use Rattle.daacgrep_command.specs.declared.flag.Flag.TheVariants.{WithName, NoName, OnlyMatches, Places, Numbers, Count, FileNames, Quiet, IgnoreCase, Invert, NullData, Longest, First, Overlapping, Values, Help, Version}
 use Rattle.daacgrep_command.specs.Flags.{asks, flag_place}
 use Rattle.daacgrep_command.proofs.options.Options.has.Goals as goal
 
@@ -23,6 +23,8 @@ place_is Invert = refl
 place_is NullData = refl
 place_is Longest = refl
 place_is First = refl
+place_is Overlapping = refl
+place_is Values = refl
 place_is Help = refl
 place_is Version = refl
 

@@ -2,7 +2,7 @@
 use Rattle.std.proofs.Common.{◌≡◌, List, ◌++◌, drop, map}
 use Rattle.daacgrep_command.specs.declared.options.Role.TheVariants.{Any}
 use Rattle.daacgrep_command.specs.Options.{AreKnown, Request, options_of, requests}
-use Rattle.daacgrep_command.proofs.options.Options.read.Given as goal
+use Rattle.daacgrep_command.proofs.options.Options.read_words.Given as goal
 
 abbrev pub invariant-loop-word : goal.invariant-loop-word
 invariant-loop-word g l = record {

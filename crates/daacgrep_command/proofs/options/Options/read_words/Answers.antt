@@ -2,10 +2,11 @@
 use Rattle.std.proofs.Common.{List, ℕ, [], ◌∷◌, ◌++◌, Ok, ap, sym, append_assoc, ◌∙◌, ◌+◌, drop, get_or, map, refl, lit<}
 use Rattle.std.proofs.lemmas.List.Elements.{Contains-append_right}
 use Rattle.std.proofs.lemmas.Result.{err_from_is_err_and}
+use Rattle.std.specs.Prelude.{codes}
 use Rattle.std.specs.Borrow.{Bor}
-use Rattle.daacgrep_command.specs.Options.{Request, Lacks, asked_by, options_of, requests}
+use Rattle.daacgrep_command.specs.Options.{Lacks, asked_by, options_of, requests}
 use Rattle.daacgrep_command.proofs.Requests.{IsCause-left, IsCause-right, takes_then, words_ended, words_more}
-use Rattle.daacgrep_command.proofs.options.Options.read.Goals as goal
+use Rattle.daacgrep_command.proofs.options.Options.read_words.Goals as goal
 
 nothing : Bor (List ℕ)
 nothing = record { ref_ptr = (0, 0); now = [] }
@@ -43,3 +44,13 @@ pub returns-in-PatternFile-clause-err : goal.returns-in-PatternFile-clause-err
 returns-in-PatternFile-clause-err g c =
     let l = c.loop-word in
     rw (l.invariant.all, words_ended l.role c.args.words.now l.word-index c.loop-word-test.false, c.in-PatternFile.is) (Contains-append_right l.invariant.done (Lacks (45 ∷ 102 ∷ []) ∷ []) _ (0, lit< tt, refl))
+
+pub returns-in-Save-clause-err : goal.returns-in-Save-clause-err
+returns-in-Save-clause-err g c =
+    let l = c.loop-word in
+    rw (l.invariant.all, words_ended l.role c.args.words.now l.word-index c.loop-word-test.false, c.in-Save.is) (Contains-append_right l.invariant.done (Lacks (codes "--save") ∷ []) _ (0, lit< tt, refl))
+
+pub returns-in-Load-clause-err : goal.returns-in-Load-clause-err
+returns-in-Load-clause-err g c =
+    let l = c.loop-word in
+    rw (l.invariant.all, words_ended l.role c.args.words.now l.word-index c.loop-word-test.false, c.in-Load.is) (Contains-append_right l.invariant.done (Lacks (codes "--load") ∷ []) _ (0, lit< tt, refl))

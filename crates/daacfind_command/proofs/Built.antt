@@ -11,7 +11,7 @@ use Rattle.daacfind_command.specs.declared.mode.Mode.{Mode}
 use Rattle.daacfind_command.specs.Modes.{found_by, kind_of_mode, text_of_mode}
 use Rattle.daacfind_command.specs.Runs.{value_gives}
 
-numbered_of : (i : ℕ) (texts : List (List ℕ)) (rs : List (List ℕ × ℕ)) → AreIndexed value_gives i texts rs → rs ≡ with_numbers i texts
+pub numbered_of : (i : ℕ) (texts : List (List ℕ)) (rs : List (List ℕ × ℕ)) → AreIndexed value_gives i texts rs → rs ≡ with_numbers i texts
 numbered_of i [] [] h = refl
 numbered_of i [] ((u, v) ∷ rs) h = absurd h
 numbered_of i (t ∷ ts) [] h = absurd h

@@ -11,14 +11,13 @@ use Rattle.std.specs.Borrow.{Bor}
 use Rattle.std.specs.Io.KnownBytes.{Appends, Keeps}
 use Rattle.daachorse_model.specs.Dictionary.{Dictionary, dictionary}
 use Rattle.daachorse_model.specs.Folding.{texts_as_read}
-use Rattle.daachorse_model.specs.Program.{with_numbers}
 use Rattle.daachorse_bytewise.specs.Automata.{Automaton, dictionary_of}
 use Rattle.daachorse_bytewise.specs.Forms.{number_form}
 use Rattle.daachorse_bytewise.specs.WrittenForms.{IsAutomaton, written_form}
 use Rattle.daachorse_bytewise.specs.Replaced.{AppendsBeginning}
-use Rattle.daachorse_bytewise.specs.Patterns.{AreIndexed}
+use Rattle.daacfind_command.proofs.Built.{numbered_of}
 use Rattle.daacfind_command.specs.Commands.{Tells}
-use Rattle.daacfind_command.specs.Runs.{IsWritten, value_gives}
+use Rattle.daacfind_command.specs.Runs.{IsWritten}
 use Rattle.daacgrep_command.specs.declared.files.Outcome.{Outcome}
 use Rattle.daacgrep_command.specs.declared.options.Role.TheVariants.{Any}
 use Rattle.daacgrep_command.specs.declared.search.Task.{Task}
@@ -123,12 +122,6 @@ module _ (s : Sought) (rules : List (List ℕ)) (task : Task) where
 pub lines_bytes : (before start : ℕ) (pieces : List (List ℕ)) → map (λ (l : TextLine). l.bytes) (lines_from before start pieces) ≡ pieces
 lines_bytes before start [] = refl
 lines_bytes before start (p ∷ ps) = ap (λ l. p ∷ l) (lines_bytes (before + 1) (start + length p + 1) ps)
-
-numbered_of : (i : ℕ) (texts : List (List ℕ)) (rs : List (List ℕ × ℕ)) → AreIndexed value_gives i texts rs → rs ≡ with_numbers i texts
-numbered_of i [] [] h = refl
-numbered_of i [] ((u, v) ∷ rs) h = absurd h
-numbered_of i (t ∷ ts) [] h = absurd h
-numbered_of i (t ∷ ts) ((u, v) ∷ rs) h = let first = h.1.1 in let rest = numbered_of (i + 1) ts rs h.2 in cc (first, rest, h.0)
 
 module _ (flags : List Flag) (given : Files) (rules : List (List ℕ)) where
   -- the patterns that an automaton holds that is asked for

@@ -6,8 +6,8 @@
 #
 # The output goes to FOLDER, else to bindings/out: libdaachorse.so.1 with the link libdaachorse.so,
 # the example in C, and tests in C: over the table bindings/rows, which rows.py makes, of the other
-# calls, of each allocation refused in turn, of the memory that a hostile form takes, and of threads
-# that search an automaton at once.
+# calls, of each allocation refused in turn, of the memory that a hostile form takes, of the steps of
+# a stream over many equal patterns, and of threads that search an automaton at once.
 #
 # It needs the Rattle kit (its command rt), which first proves what is not proved yet, and a C
 # compiler, CC or cc, with a linker that has --wrap. Without valgrind, python3, Dask, objcopy or a
@@ -68,6 +68,7 @@ compile calls
 compile refusals -Wl,--wrap=malloc,--wrap=realloc
 compile memory -Wl,--wrap=malloc,--wrap=realloc,--wrap=free
 compile threads -pthread
+compile steps
 
 "$out/example" > "$out/example.stdout"
 diff "$here/c/example.stdout" "$out/example.stdout"
@@ -83,12 +84,19 @@ echo "build.sh: a listing without room held no patterns"
 "$out/threads" 200
 echo "build.sh: threads searched shared automata at once"
 
+steps() {
+    valgrind --tool=callgrind --callgrind-out-file=/dev/null "$out/steps" "$1" 2>&1 | sed -n 's/.*Collected : \([0-9]*\).*/\1/p'
+}
+
 if valgrind -q "$out/trial" >/dev/null 2>&1; then
     for program in example rows calls refusals memory; do
         valgrind -q --leak-check=full --show-leak-kinds=all --errors-for-leak-kinds=all --error-exitcode=1 "$out/$program" < "$here/rows" >/dev/null
     done
     valgrind -q --tool=helgrind --error-exitcode=1 "$out/threads" 2 >/dev/null
     echo "build.sh: valgrind found no bad access, no leak and no race"
+    few=$(steps 4000) many=$(steps 8000)
+    [ "$many" -lt $((few * 5 / 2)) ] || { echo "build.sh: a stream takes $few steps for 4000 matches and $many for 8000" >&2; exit 1; }
+    echo "build.sh: twice the matches at a place took a stream no more than twice the steps"
 else
     echo "build.sh: there is no valgrind that runs, so nothing was run under it"
 fi

@@ -249,10 +249,10 @@ static inline uint32_t daachorse_stream(daachorse *handle, bool overlapping, daa
 /* Feeds bytes to the stream, as few as one, and writes its next matches to out, the number of bytes
  * consumed to taken, and that of matches to written. If written is less than out_len, all bytes
  * were consumed and every match so far was reported. If it is out_len, call again with the bytes
- * after the first taken, even if there are none: no match is lost. It allocates nothing. A call
- * passes over the matches at one place that earlier ones reported, so that of many equal patterns a
- * small out takes the square. Returns DAACHORSE_DONE or, with the stream and out unchanged and 0 in
- * taken and written, DAACHORSE_EMPTY_HANDLE, DAACHORSE_NO_STREAM or DAACHORSE_STREAM_TOO_LONG. */
+ * after the first taken, even if there are none: no match is lost. It allocates nothing, and the
+ * calls take time linear in the bytes and the matches, whatever out_len is. Returns DAACHORSE_DONE
+ * or, with the stream and out unchanged and 0 in taken and written, DAACHORSE_EMPTY_HANDLE,
+ * DAACHORSE_NO_STREAM or DAACHORSE_STREAM_TOO_LONG. */
 uint32_t daachorse_consume(daachorse *handle, const uint8_t *bytes, size_t bytes_len, daachorse_match *out,
         size_t out_len, size_t *taken, size_t *written);
 

@@ -68,10 +68,6 @@ told-more all more old new last n k t w =
     take_both [] ys n k e = let none : n + k ≡ k = omega (arith, e) in ap (λ j. take j ys) none
     take_both (x ∷ xs) ys n k e = let one : n + k ≡ suc (length xs + k) = omega (arith, e) in ap (λ j. take j (x ∷ xs ++ ys)) one ∙ ap (λ l. x ∷ l) (take_both xs ys (length xs) k refl)
 
--- there was nothing to write
-pub writes_none : {all : List (Match ℕ)} {old : List CMatch} → all ≡ [] → Writes all old old 0
-writes_none none = record { room = omega arith; there = omega arith; whole = λ lt. sym (ap length none); wrote = refl }
-
 module _ (K : Dictionary ℕ) (all folds : Bool) (h text : List ℕ) (u told : ℕ) (read : text ≡ h ++ as_read folds (u ∷ [])) (before : told ≤ length (found_in all K h)) where
   both : found_in all K text ≡ found_in all K h ++ ending_with all K text
   both =

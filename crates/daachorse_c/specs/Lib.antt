@@ -11,5 +11,6 @@ pub mod Refusals
 pub mod Searches
 pub mod Streaming
 pub mod Streams
+pub mod Tellers
 pub mod Writes
 pub mod Written

@@ -1,5 +1,5 @@
 -- A stream: a haystack that comes in pieces, the search that goes through it, where this stands, and what it has told.
-use Rattle.std.specs.Prelude.{◌≡◌, ℕ, ◌+◌, ◌<◌, ◌≤◌, Bool, true, false, List, [], ◌++◌, take, drop, length, option_to_list}
+use Rattle.std.specs.Prelude.{◌≡◌, ℕ, ◌+◌, ◌<◌, ◌≤◌, Bool, true, false, List, [], ◌++◌, cond, take, drop, length, option_to_list}
 use Rattle.daachorse_core.specs.Seen.{units}
 use Rattle.daachorse_model.specs.declared.Match.{Match}
 use Rattle.daachorse_model.specs.declared.MatchKind.TheVariants.{Standard}
@@ -8,11 +8,13 @@ use Rattle.daachorse_model.specs.Folding.{as_read}
 use Rattle.daachorse_model.specs.Matches.{matches_after, standard_after}
 use Rattle.daachorse_model.specs.Units.{byte_width}
 use Rattle.daachorse_bytewise.specs.Automata.{Automaton as Searches, dictionary_of, kind_of, states_of}
-use Rattle.daachorse_bytewise.specs.Standings.{IsFindStandingIn, IsOverlappingStandingIn}
-use Rattle.daachorse_bytewise_states.specs.Parts.{Parts}
+use Rattle.daachorse_bytewise.specs.Standings.{IsFindStandingIn}
+use Rattle.daachorse_bytewise_states.specs.Parts.{Parts, content}
+use Rattle.daachorse_bytewise_states.specs.Valid.{sees}
 use Rattle.daachorse_c.specs.declared.found.CMatch.{CMatch}
 use Rattle.daachorse_c.specs.declared.search.SearchKind.{SearchKind}
 use Rattle.daachorse_c.specs.declared.search.SearchKind.TheVariants.{Find, Overlapping}
+use Rattle.daachorse_c.specs.declared.stepper.Finder.{Finder}
 use Rattle.daachorse_c.specs.declared.stepper.Standing.{Standing}
 use Rattle.daachorse_c.specs.declared.stepper.Standing.TheVariants.{Find as AtFind, Overlapping as AtOverlapping}
 use Rattle.daachorse_c.specs.declared.stepper.Stepper.{Stepper}
@@ -20,6 +22,7 @@ use Rattle.daachorse_c.specs.declared.stepper.Stepper.TheVariants.{Find as Findi
 use Rattle.daachorse_c.specs.declared.stream.Done.{Done}
 use Rattle.daachorse_c.specs.declared.stream.Stream.{Stream}
 use Rattle.daachorse_c.specs.Searches.{found_by}
+use Rattle.daachorse_c.specs.Tellers.{IsTelling, left_from}
 use Rattle.daachorse_c.specs.Writes.{Writes}
 
 -- ---- the search
@@ -41,44 +44,55 @@ found_in all K text = found_by (search_of all) K text
 -- ---- steppers
 
 abbrev pub states_in : Stepper → Parts ℕ
-states_in (Finding s) = s.automaton
+states_in (Finding f) = f.stepper.automaton
 states_in (FindingAll s) = s.automaton
 
 abbrev pub overlaps_in : Stepper → Bool
-overlaps_in (Finding s) = false
+overlaps_in (Finding f) = false
 overlaps_in (FindingAll s) = true
 
 -- whether bytes are folded
 abbrev pub folds_in : Stepper → Bool
-folds_in (Finding s) = s.folds
+folds_in (Finding f) = f.stepper.folds
 folds_in (FindingAll s) = s.folds
 
 -- the bytes that were consumed, as they were read
 abbrev pub read_in : Stepper → List ℕ
-read_in (Finding s) = s.read
+read_in (Finding f) = f.stepper.read
 read_in (FindingAll s) = s.read
+
+-- what ends with them and was not told
+abbrev pub left_to : Finder → List (Match ℕ)
+left_to f = cond f.told [] (ending_with false (content f.stepper.automaton) f.stepper.read)
+
+abbrev pub left_in : Stepper → List (Match ℕ)
+left_in (Finding f) = left_to f
+left_in (FindingAll s) = s.left
 
 -- ---- where they stand
 
 abbrev pub overlaps : Standing → Bool
-overlaps (AtFind s) = false
+overlaps (AtFind s told) = false
 overlaps (AtOverlapping s) = true
 
 abbrev pub read_by : Standing → List ℕ
-read_by (AtFind s) = units s.walk.seen
+read_by (AtFind s told) = units s.walk.seen
 read_by (AtOverlapping s) = units s.walk.seen
 
 abbrev pub StandsIn : Parts ℕ → Standing → Type 0
-StandsIn p (AtFind s) = IsFindStandingIn p s
-StandsIn p (AtOverlapping s) = IsOverlappingStandingIn p s
+StandsIn p (AtFind s told) = IsFindStandingIn p s
+StandsIn p (AtOverlapping s) = IsTelling byte_width sees p s
 
--- A stream goes on in a: what it has not told of what its search found in the bytes consumed are matches at their end.
+abbrev pub left_by : Parts ℕ → Standing → List (Match ℕ)
+left_by p (AtFind s told) = cond told [] (ending_with false (content p) (units s.walk.seen))
+left_by p (AtOverlapping s) = left_from byte_width sees p s
+
+-- A stream goes on in a: what it has not told of what its search found in the bytes consumed ends with them.
 pub record GoesOnIn (a : Searches ℕ) (s : Stream) : Type 0 where
   pub kind : kind_of a ≡ Standard
   pub stands : StandsIn (states_of a) s.standing
   pub told : s.told ≤ length (found_in (overlaps s.standing) (dictionary_of a) (read_by s.standing))
-  pub left : drop s.told (found_in (overlaps s.standing) (dictionary_of a) (read_by s.standing)) ≡ drop s.here (ending_with (overlaps s.standing) (dictionary_of a) (read_by s.standing))
-  pub least : s.here ≤ s.told
+  pub left : drop s.told (found_in (overlaps s.standing) (dictionary_of a) (read_by s.standing)) ≡ left_by (states_of a) s.standing
 
 -- it has consumed nothing, and told nothing
 pub record IsAtBeginning (all : Bool) (s : Stream) : Type 0 where

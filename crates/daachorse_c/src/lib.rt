@@ -55,6 +55,7 @@ mod search;
 mod searches;
 mod stepper;
 mod stream;
+mod teller;
 
 /// Returned by a call that is not refused.
 const DONE: u32 = 0;

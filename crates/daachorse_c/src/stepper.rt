@@ -1,41 +1,51 @@
-//! The library's two steppers as one type.
+//! The two searches of a stream as one type.
 
-ghost use Rattle.std.specs.Prelude.{◌≡◌, ◌<◌, ◌^◌, ◌+◌, [], ◌∷◌, ◌++◌, ℕ, drop, length, option_to_list};
+ghost use Rattle.std.specs.Prelude.{◌≡◌, ◌<◌, ◌^◌, ◌+◌, [], ◌∷◌, ◌++◌, ℕ, false, cond, drop, length, option_to_list};
 ghost use Rattle.daachorse_model.specs.declared.MatchKind.TheVariants.{Standard};
 ghost use Rattle.daachorse_model.specs.Folding.{as_read};
-ghost use Rattle.daachorse_bytewise.specs.Automata.{kind_of, states_of};
+ghost use Rattle.daachorse_bytewise.specs.Automata.{dictionary_of, kind_of, states_of};
 ghost use Rattle.daachorse_bytewise_states.specs.Parts.{Parts, content};
-ghost use Rattle.daachorse_c.specs.Streams.{StandsIn, ending_with, folds_in, overlaps, overlaps_in, read_by, read_in, states_in};
+ghost use Rattle.daachorse_c.specs.Streams.{StandsIn, ending_with, folds_in, left_by, left_in, left_to, overlaps, overlaps_in, read_by, read_in, states_in};
 ghost use Rattle.daachorse_c.specs.Writes.{Writes};
 
-use crate::found::{CMatch, fill};
-use daachorse::bytewise::iter::{FindOverlappingStepper, FindStepper};
+use crate::found::CMatch;
+use crate::teller::{Teller, TellerStanding};
+use daachorse::bytewise::iter::FindStepper;
+use daachorse::bytewise::states::Standard;
 use daachorse::{DoubleArrayAhoCorasick, Match};
 use daachorse_search::find_stepper::FindStanding;
-use daachorse_search::overlapping_stepper::OverlappingStanding;
 use std::alloc::Global;
-use std::iter;
 
-/// A search that is fed one byte at a time.
+/// A search that is fed one byte at a time, and tells what it finds as there is room.
 #[derive(Drop)]
 pub enum Stepper<'a> {
     /// For matches that do not overlap.
-    Find(FindStepper<'a, u32>),
+    Find(Finder<'a>),
     /// For all matches.
-    Overlapping(FindOverlappingStepper<'a, u32>),
+    Overlapping(Teller<Standard<'a, u32>>),
+}
+
+/// A search for matches that do not overlap.
+#[derive(Drop)]
+pub struct Finder<'a> {
+    /// The stepper of the library.
+    pub stepper: FindStepper<'a, u32>,
+    /// Whether the match that ends here was told.
+    pub told: bool,
 }
 
 /// A stepper saved without its automaton.
 #[derive(Drop)]
 pub enum Standing {
-    /// Of a search for matches that do not overlap.
-    Find(FindStanding),
+    /// Of a search for matches that do not overlap, and whether the one that ends there was told.
+    Find(FindStanding, bool),
     /// Of a search for all matches.
-    Overlapping(OverlappingStanding),
+    Overlapping(TellerStanding),
 }
 
 impl<'a> Stepper<'a> {
     /// A fresh stepper, for all matches or for those that do not overlap.
+    #[tactic(auto, using(daachorse_bytewise_states::proofs::DeadLaws::alive))]
     pub(crate) fn new(
         searches: &'a DoubleArrayAhoCorasick<u32, Global>,
         overlapping: bool,
@@ -45,11 +55,17 @@ impl<'a> Stepper<'a> {
         ensures folds { folds_in result ≡ searches.entry.now.folds }
         ensures overlaps { overlaps_in result ≡ overlapping }
         ensures read { read_in result ≡ [] }
+        ensures left { left_in result ≡ ending_with overlapping (dictionary_of searches.entry.now) [] }
     {
         if overlapping {
-            Stepper::Overlapping(searches.find_overlapping_stepper())
+            let folds = searches.is_ascii_case_insensitive();
+            Stepper::Overlapping(Teller::new(searches.standard(), folds))
         } else {
-            Stepper::Find(searches.find_stepper())
+            let stepper = searches.find_stepper();
+            Stepper::Find(Finder {
+                stepper,
+                told: false,
+            })
         }
     }
 
@@ -64,11 +80,16 @@ impl<'a> Stepper<'a> {
         ensures folds { folds_in result ≡ searches.entry.now.folds }
         ensures overlaps { overlaps_in result ≡ overlaps standing }
         ensures read { read_in result ≡ read_by standing }
+        ensures left { left_in result ≡ left_by (states_of searches.entry.now) standing }
     {
         match standing {
-            Standing::Find(standing) => Stepper::Find(searches.resume_find_stepper(standing)),
+            Standing::Find(standing, told) => {
+                let stepper = searches.resume_find_stepper(standing);
+                Stepper::Find(Finder { stepper, told })
+            }
             Standing::Overlapping(standing) => {
-                Stepper::Overlapping(searches.resume_find_overlapping_stepper(standing))
+                let folds = searches.is_ascii_case_insensitive();
+                Stepper::Overlapping(Teller::resume(searches.standard(), standing, folds))
             }
         }
     }
@@ -78,48 +99,95 @@ impl<'a> Stepper<'a> {
         ensures stands { StandsIn (states_in self.entry) result }
         ensures overlaps { overlaps result ≡ overlaps_in self.entry }
         ensures read { read_by result ≡ read_in self.entry }
+        ensures left { left_by (states_in self.entry) result ≡ left_in self.entry }
     {
         match self {
-            Stepper::Find(stepper) => Standing::Find(stepper.into_standing()),
+            Stepper::Find(finder) => finder.into_standing(),
             Stepper::Overlapping(stepper) => Standing::Overlapping(stepper.into_standing()),
         }
     }
 
-    /// Consumes one byte, folded if the automaton ignores case.
+    /// Consumes one byte, folded if the automaton ignores case. What was not told before is left
+    /// out.
     pub(crate) fn consume(&mut self, byte: u8)
         requires { length (read_in self.old) + 1 < 2 ^ 64 }
         ensures states { states_in self.new ≡ states_in self.old }
         ensures folds { folds_in self.new ≡ folds_in self.old }
         ensures overlaps { overlaps_in self.new ≡ overlaps_in self.old }
         ensures read { read_in self.new ≡ read_in self.old ++ as_read (folds_in self.old) (byte ∷ []) }
+        ensures left { left_in self.new ≡ ending_with (overlaps_in self.old) (content (states_in self.old)) (read_in self.new) }
     {
         match self {
-            Stepper::Find(stepper) => stepper.consume(byte),
+            Stepper::Find(finder) => finder.consume(byte),
             Stepper::Overlapping(stepper) => stepper.consume(byte),
         }
     }
 
-    /// Writes the matches that end at the current place, without the first `told` of them, as many
-    /// as there is room for, and returns their number.
-    pub(crate) fn tell(&self, told: usize, out: &mut [CMatch]) -> usize
-        ensures { Writes (drop told (ending_with (overlaps_in self.now) (content (states_in self.now)) (read_in self.now))) out.old out.new result }
+    /// Writes the matches that end at the current place and were not told, as many as there is room
+    /// for, and returns their number.
+    pub(crate) fn tell(&mut self, out: &mut [CMatch]) -> usize
+        ensures states { states_in self.new ≡ states_in self.old }
+        ensures folds { folds_in self.new ≡ folds_in self.old }
+        ensures overlaps { overlaps_in self.new ≡ overlaps_in self.old }
+        ensures read { read_in self.new ≡ read_in self.old }
+        ensures writes { Writes (left_in self.old) out.old out.new result }
+        ensures left { left_in self.new ≡ drop result (left_in self.old) }
     {
         match self {
-            Stepper::Find(stepper) => tell_one(stepper.matches(), told, out),
-            Stepper::Overlapping(stepper) => fill(stepper.matches().skip(told), out),
+            Stepper::Find(finder) => finder.tell(out),
+            Stepper::Overlapping(stepper) => stepper.tell(out),
         }
     }
 }
 
-/// Writes the match, unless there is none, it was reported before, or there is no room.
-fn tell_one(found: Option<Match<u32>>, told: usize, out: &mut [CMatch]) -> usize
-    ensures { Writes (drop told (option_to_list found)) out.old out.new result }
+impl<'a> Finder<'a> {
+    /// Saves the search for [`Stepper::resume`].
+    fn into_standing(self) -> Standing
+        ensures stands { StandsIn self.entry.stepper.automaton result }
+        ensures overlaps { overlaps result ≡ false }
+        ensures read { read_by result ≡ self.entry.stepper.read }
+        ensures left { left_by self.entry.stepper.automaton result ≡ left_to self.entry }
+    {
+        let Finder { stepper, told } = self;
+        Standing::Find(stepper.into_standing(), told)
+    }
+
+    /// Consumes one byte, folded if the automaton ignores case.
+    fn consume(&mut self, byte: u8)
+        requires { length self.old.stepper.read + 1 < 2 ^ 64 }
+        ensures states { self.new.stepper.automaton ≡ self.old.stepper.automaton }
+        ensures folds { self.new.stepper.folds ≡ self.old.stepper.folds }
+        ensures read { self.new.stepper.read ≡ self.old.stepper.read ++ as_read self.old.stepper.folds (byte ∷ []) }
+        ensures told { self.new.told ≡ false }
+    {
+        self.stepper.consume(byte);
+        self.told = false;
+    }
+
+    /// Writes the match that ends here, if it was not told and there is room.
+    fn tell(&mut self, out: &mut [CMatch]) -> usize
+        ensures kept { self.new.stepper ≡ self.old.stepper }
+        ensures writes { Writes (left_to self.old) out.old out.new result }
+        ensures left { left_to self.new ≡ drop result (left_to self.old) }
+    {
+        tell_one(self.stepper.matches(), &mut self.told, out)
+    }
+}
+
+/// Writes the match, unless there is none, it was told, or there is no room.
+fn tell_one(found: Option<Match<u32>>, told: &mut bool, out: &mut [CMatch]) -> usize
+    ensures writes { Writes (cond told.old [] (option_to_list found)) out.old out.new result }
+    ensures left { cond told.new [] (option_to_list found) ≡ drop result (cond told.old [] (option_to_list found)) }
 {
-    if told > 0 {
+    if *told || out.is_empty() {
         return 0;
     }
     match found {
-        Some(found) => fill(iter::once(found), out),
+        Some(found) => {
+            out[0] = CMatch::of(found);
+            *told = true;
+            1
+        }
         None => 0,
     }
 }
@@ -131,8 +199,8 @@ impl Standing {
         ensures { result ≡ length (read_by self.now) }
     {
         match self {
-            Standing::Find(standing) => standing.place(),
-            Standing::Overlapping(standing) => standing.place(),
+            Standing::Find(standing, _told) => standing.place(),
+            Standing::Overlapping(standing) => standing.place,
         }
     }
 }

@@ -15,8 +15,6 @@ use std::alloc::Global;
 pub struct Stream {
     /// The saved stepper.
     pub standing: Standing,
-    /// How many of the matches that end at the current place were reported.
-    pub here: usize,
     /// How many matches were reported in all.
     pub told: usize,
 }
@@ -40,7 +38,6 @@ impl Stream {
         let stepper = Stepper::new(searches, overlapping);
         Stream {
             standing: stepper.into_standing(),
-            here: 0,
             told: 0,
         }
     }
@@ -72,24 +69,18 @@ impl Stream {
         ensures goes_on { GoesOnIn searches.now result.0 }
         ensures tells { Tells searches.now bytes.now self result.0 out.old out.new result.1 }
     {
-        let Stream {
-            standing,
-            mut here,
-            told,
-        } = self;
+        let Stream { standing, told } = self;
         let mut stepper = Stepper::resume(searches, standing);
         let mut taken = 0;
-        let mut written = stepper.tell(here, out);
-        here += written;
+        let mut written = stepper.tell(out);
         while written < out.len() && taken < bytes.len() {
             stepper.consume(bytes[taken]);
             taken += 1;
-            here = stepper.tell(0, &mut out[written..]);
-            written += here;
+            let more = stepper.tell(&mut out[written..]);
+            written += more;
         }
         let stream = Stream {
             standing: stepper.into_standing(),
-            here,
             told: told + written,
         };
         (stream, Done { taken, written })

@@ -8,4 +8,4 @@ pub returns-in-Find : goal.returns-in-Find
 returns-in-Find c = let stands = subst (StandsIn c.requires.0) c.in-Find.is c.requires.1 in rw c.in-Find.is (c.place.ensures ∙ stands.stands ∙ size-bytes _)
 
 pub returns-in-Overlapping : goal.returns-in-Overlapping
-returns-in-Overlapping c = let stands = subst (StandsIn c.requires.0) c.in-Overlapping.is c.requires.1 in rw c.in-Overlapping.is (c.place-in-Overlapping.ensures ∙ stands.stands ∙ size-bytes _)
+returns-in-Overlapping c = let stands = subst (StandsIn c.requires.0) c.in-Overlapping.is c.requires.1 in rw c.in-Overlapping.is (stands.place ∙ size-bytes _)

@@ -1,0 +1,28 @@
+-- A search for all matches, one unit at a time, that tells them as there is room: what contracts see of it, and where it stands.
+use Rattle.std.specs.Prelude.{ℕ, Bool, List}
+use Rattle.daachorse_core.specs.Outputs.{number}
+use Rattle.daachorse_core.specs.Seen.{units}
+use Rattle.daachorse_model.specs.declared.Match.{Match}
+use Rattle.daachorse_search.specs.Stepwise.{StandsAt}
+use Rattle.daachorse_search.specs.Views.{AutomatonView}
+use Rattle.daachorse_search.specs.Walks.{HasPlace, IsFresh, IsWalking, matches_from}
+use Rattle.daachorse_c.specs.declared.teller.TellerStanding.{TellerStanding}
+
+-- its automaton, whether units are folded, the units consumed as they were read, and the matches that end with them and were not told
+pub record Telling (A : Type 0) : Type 0 where
+  pub automaton : A
+  pub folds : Bool
+  pub read : List ℕ
+  pub left : List (Match ℕ)
+
+module _ {A : Type 0} (width : ℕ → ℕ) (sees : A → AutomatonView ℕ) (a : A) where
+  -- a teller over a stands so
+  pub record IsTelling (s : TellerStanding) : Type 0 where
+    pub walks : IsWalking (sees a) s.walk.seen s.walk.state s.walk.turns
+    pub fresh : IsFresh s.walk.seen
+    pub place : StandsAt width (units s.walk.seen) s.place
+    pub next : HasPlace width (sees a) s.walk.seen (number s.next)
+
+  -- what it has still to tell
+  abbrev pub left_from : TellerStanding → List (Match ℕ)
+  left_from s = matches_from width (sees a) s.walk.seen (number s.next)

@@ -1,5 +1,5 @@
 -- Where a leftmost search goes on behind a match, and what it finds that begins there.
-use Rattle.std.proofs.Common.{◌≡◌, ℕ, zero, suc, ◌+◌, ◌<◌, ◌≤◌, Bool, true, false, cond, List, [], ◌∷◌, ◌++◌, map, drop, length, Option, Some, None, refl, sym, ap, ◌∙◌, length-append, arith}
+use Rattle.std.proofs.Common.{◌≡◌, ℕ, zero, suc, ◌+◌, ◌<◌, ◌≤◌, Bool, true, false, List, [], ◌∷◌, ◌++◌, map, drop, length, Option, Some, None, refl, sym, ap, ◌∙◌, length-append, arith}
 use Rattle.std.specs.Prelude.{option_map, slice_get}
 use Rattle.std.proofs.lemmas.List.{map-append}
 use Rattle.daachorse_model.specs.declared.Match.{Match}
@@ -11,19 +11,11 @@ use Rattle.daachorse_model.proofs.Overlap.{Begins, longest_key-begins}
 use Rattle.daachorse_model.proofs.Searches.{key_with_value-none, leftmost_from-skip}
 use Rattle.daachorse_model.proofs.Suffixes.{size-bytes}
 use Rattle.daachorse_search.specs.Afresh.{shifted}
-
-heads : {V : Type 0} (x m : Match V) (xs ms : List (Match V)) → x ∷ xs ≡ m ∷ ms → x ≡ m
-heads x m xs ms e = cc
-
-tails : {V : Type 0} (x m : Match V) (xs ms : List (Match V)) → x ∷ xs ≡ m ∷ ms → xs ≡ ms
-tails x m xs ms e = cc
+use Rattle.daachorse_c.proofs.Heads.{heads, no_match, tails}
 
 no_key : {V : Type 0} (t : List ℕ) (vs : List V) → option_map {U = List ℕ × V} (λ v. (t, v)) (slice_get vs 0) ≡ None → vs ≡ []
 no_key t [] e = refl
 no_key t (v ∷ vs) e = cc
-
-no_match : {V : Type 0} (m : Match V) (ms : List (Match V)) → [] ≡ m ∷ ms → ⊥
-no_match m ms e = cc
 
 dropped : (p b : List ℕ) → drop (length p) (p ++ b) ≡ b
 dropped [] b = refl
@@ -71,14 +63,15 @@ module _ {V : Type 0} (K : Dictionary V) where
 
   -- ---- behind a match
 
-  behind_last : (s : ℕ) (after : Bool) (o : Option (List ℕ × V)) (m : Match V) (ms : List (Match V)) → ((k : List ℕ × V) → o ≡ Some k → Begins K [] [] k)
-      → match_at byte_width s after o ≡ m ∷ ms → Behind K s [] m ms
-  behind_last s after None m ms begins e = absurd (no_match m ms e)
-  behind_last s true (Some ([], v)) m ms begins e = absurd (no_match m ms e)
-  behind_last s false (Some ([], v)) m ms begins e =
-      let same = heads (record { start = s; end = s; value = v }) m [] ms e in
+  -- an empty match at s, and then these
+  behind_empty : (s : ℕ) (w : List ℕ) (v : V) (rest : List (Match V)) (m : Match V) (ms : List (Match V)) → record { start = s; end = s; value = v } ∷ rest ≡ m ∷ ms
+      → (0 < length w → rest ≡ leftmost_from byte_width K (s + 1) 0 false (drop 1 w)) → (0 ≡ length w → rest ≡ []) → Behind K s w m ms
+  behind_empty s w v rest m ms e more none =
+      let first : Match V = record { start = s; end = s; value = v } in
+      let same = heads first m rest ms e in
       let start = ap (λ (x : Match V). x.start) same in
       let end = ap (λ (x : Match V). x.end) same in
+      let others = sym (tails first m rest ms e) in
       record {
         passed = 0;
         starts = omega (arith, start);
@@ -86,9 +79,15 @@ module _ {V : Type 0} (K : Dictionary V) where
         end = omega (arith, end);
         within = omega arith;
         nonempty = λ lt. absurd (omega (arith, start, end, lt));
-        empty = λ le lt. absurd (omega (arith, lt));
-        last = λ le is. sym (tails (record { start = s; end = s; value = v }) m [] ms e);
+        empty = λ le lt. others ∙ more lt ∙ ap (λ n. leftmost_from byte_width K (n + 1) 0 false (drop 1 w)) end;
+        last = λ le is. others ∙ none is;
       }
+
+  behind_last : (s : ℕ) (after : Bool) (o : Option (List ℕ × V)) (m : Match V) (ms : List (Match V)) → ((k : List ℕ × V) → o ≡ Some k → Begins K [] [] k)
+      → match_at byte_width s after o ≡ m ∷ ms → Behind K s [] m ms
+  behind_last s after None m ms begins e = absurd (no_match m ms e)
+  behind_last s true (Some ([], v)) m ms begins e = absurd (no_match m ms e)
+  behind_last s false (Some ([], v)) m ms begins e = behind_empty s [] v [] m ms e (λ lt. absurd (omega (arith, lt))) (λ is. refl)
   behind_last s after (Some (c ∷ p, v)) m ms begins e =
       let b = begins (c ∷ p, v) refl in
       absurd (omega (arith, ap length b.key, ap length b.splits, length-append b.more b.rest))
@@ -112,21 +111,7 @@ module _ {V : Type 0} (K : Dictionary V) where
       → ((a : Bool) → leftmost_from byte_width K (s + 1) 0 a w ≡ m ∷ ms → Behind K (s + 1) w m ms) → here s after w o ≡ m ∷ ms → Behind K s (u ∷ w) m ms
   behind_by s u after w None m ms begins on e = behind-more s u w m ms (on after e)
   behind_by s u true w (Some ([], v)) m ms begins on e = behind-more s u w m ms (on false e)
-  behind_by s u false w (Some ([], v)) m ms begins on e =
-      let first : Match V = record { start = s; end = s; value = v } in
-      let same = heads first m (leftmost_from byte_width K (s + 1) 0 false w) ms e in
-      let start = ap (λ (x : Match V). x.start) same in
-      let end = ap (λ (x : Match V). x.end) same in
-      record {
-        passed = 0;
-        starts = omega (arith, start);
-        order = omega (arith, start, end);
-        end = omega (arith, end);
-        within = omega arith;
-        nonempty = λ lt. absurd (omega (arith, start, end, lt));
-        empty = λ le lt. sym (tails first m (leftmost_from byte_width K (s + 1) 0 false w) ms e) ∙ ap (λ n. leftmost_from byte_width K (n + 1) 0 false w) end;
-        last = λ le is. absurd (omega (arith, is));
-      }
+  behind_by s u false w (Some ([], v)) m ms begins on e = behind_empty s (u ∷ w) v (leftmost_from byte_width K (s + 1) 0 false w) m ms e (λ lt. refl) (λ is. absurd (omega (arith, is)))
   behind_by s u after w (Some (c ∷ p, v)) m ms begins on e =
       let b = begins (c ∷ p, v) refl in
       let whole : u ∷ w ≡ c ∷ (p ++ b.rest) = b.splits ∙ ap (λ r. r ++ b.rest) (sym b.key) in

@@ -1,5 +1,6 @@
 mod CharacterLaws
 mod Crossing
+mod Heads
 mod LeftmostOn
 mod Listed
 mod Places

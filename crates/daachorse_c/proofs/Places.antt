@@ -1,5 +1,5 @@
 -- What is left of a search behind what it found.
-use Rattle.std.proofs.Common.{◌≡◌, ◌≢◌, ℕ, ◌+◌, ◌<◌, ◌≤◌, ◌⊎◌, inl, inr, Bool, true, false, cond, List, [], ◌∷◌, map, drop, length, Option, None, Some, refl, sym, ap, ◌∙◌, add-zero, arith}
+use Rattle.std.proofs.Common.{◌≡◌, ◌≢◌, ℕ, ◌+◌, ◌<◌, ◌≤◌, inl, inr, Bool, true, false, cond, List, [], ◌∷◌, map, drop, length, Option, None, Some, refl, sym, ap, ◌∙◌, add-zero, arith}
 use Rattle.std.specs.Prelude.{IfNone, slice_get}
 use Rattle.std.proofs.lemmas.Bool.{cases_lt}
 use Rattle.std.proofs.lemmas.List.{drop-drop, drop-map, length-drop}
@@ -16,6 +16,7 @@ use Rattle.daachorse_search.specs.Afresh.{shifted}
 use Rattle.daachorse_c.specs.declared.place.Place.{Place}
 use Rattle.daachorse_c.specs.Places.{StandsBehind, afresh, found_from, left_at}
 use Rattle.daachorse_search.proofs.AfreshLaws.{shifted-twice}
+use Rattle.daachorse_c.proofs.Heads.{no_match}
 use Rattle.daachorse_c.proofs.LeftmostOn.{IsAfter, after_nonempty, behind, leftmost-shifted}
 use Rattle.daachorse_c.proofs.StandardOn.{follows_first}
 
@@ -28,20 +29,10 @@ pub some_first : (l : List (Match ℕ)) (m : Match ℕ) → Some m ≡ slice_get
 some_first [] m e = cc
 some_first (x ∷ xs) m e = let same : x ≡ m = cc in (xs, ap (λ y. y ∷ xs) same)
 
-no_match : (m : Match ℕ) (ms : List (Match ℕ)) → [] ≡ m ∷ ms → ⊥
-no_match m ms e = cc
-
 -- a part of the haystack is read as that part of what is read
 pub as_read-drop : (folds : Bool) (n : ℕ) (h : List ℕ) → as_read folds (drop n h) ≡ drop n (as_read folds h)
 as_read-drop true n h = sym (drop-map folded_unit n h)
 as_read-drop false n h = refl
-
--- behind an empty match none ends
-pub stands_clear : (m : Match ℕ) (size : ℕ) (q : Place) → StandsBehind m size q → m.end ≤ m.start → m.end ≤ size → q.after ≡ false
-stands_clear m size q s le in_h = elim (cases_lt m.end size) [
-  | inl lt ↦ ap (λ (x : Place). x.after) (s.empty le lt)
-  | inr ge ↦ ap (λ (x : Place). x.after) (s.last le (omega (arith, ge, in_h)))
-]
 
 -- what follows where there is none
 pub none_weaker : {A : Type 0} (o : Option A) (P Q : Type 0) → (P → Q) → IfNone o P → IfNone o Q
@@ -168,7 +159,7 @@ module _ (kind : MatchKind) (K : Dictionary ℕ) (h : List ℕ) (p : Place) wher
   pub left_none : left_at kind K h (afresh p) ≡ [] → left_at kind K h p ≡ []
   left_none = none_by kind p.after
 
-  pub left_empty : p.after ≡ true → kind ≢ Standard → (m : Match ℕ) (ms : List (Match ℕ)) → left_at kind K h (afresh p) ≡ m ∷ ms → m.end ≡ p.at → left_at kind K h p ≡ ms
+  left_empty : p.after ≡ true → kind ≢ Standard → (m : Match ℕ) (ms : List (Match ℕ)) → left_at kind K h (afresh p) ≡ m ∷ ms → m.end ≡ p.at → left_at kind K h p ≡ ms
   left_empty is not m ms e at = ap (left_by kind p.over) is ∙ empty_by kind not m ms e at
 
   -- a match that is no empty leftmost one at the end of a nonempty one
@@ -178,5 +169,10 @@ module _ (kind : MatchKind) (K : Dictionary ℕ) (h : List ℕ) (p : Place) wher
     | inr ge ↦ kept_by kind p.after m ms e (λ q. never (q.0, omega (arith, le, ge), q.1))
   ]
 
-  pub left_same : p.after ≡ false → left_at kind K h p ≡ left_at kind K h (afresh p)
+  left_same : p.after ≡ false → left_at kind K h p ≡ left_at kind K h (afresh p)
   left_same is = ap (left_by kind p.over) is
+
+-- what is left past an empty match at the end of a nonempty one
+pub left_past : (kind : MatchKind) (K : Dictionary ℕ) (h : List ℕ) (p q : Place) → p.after ≡ true → kind ≢ Standard → (m : Match ℕ) → left_at kind K h (afresh p) ≡ m ∷ left_at kind K h q → m.end ≡ p.at
+    → (m.end ≡ p.at → q.after ≡ false) → left_at kind K h p ≡ left_at kind K h (afresh q)
+left_past kind K h p q is not m e at clear = left_empty kind K h p is not m (left_at kind K h q) e at ∙ left_same kind K h q (clear at)

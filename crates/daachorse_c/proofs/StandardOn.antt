@@ -9,15 +9,7 @@ use Rattle.daachorse_model.proofs.SameSearches.{standard-is}
 use Rattle.daachorse_model.proofs.Searches.{first_or}
 use Rattle.daachorse_model.proofs.Suffixes.{size-bytes}
 use Rattle.daachorse_search.specs.Afresh.{shifted}
-
-heads : {V : Type 0} (x m : Match V) (xs ms : List (Match V)) → x ∷ xs ≡ m ∷ ms → x ≡ m
-heads x m xs ms e = cc
-
-tails : {V : Type 0} (x m : Match V) (xs ms : List (Match V)) → x ∷ xs ≡ m ∷ ms → xs ≡ ms
-tails x m xs ms e = cc
-
-no_match : {V : Type 0} (m : Match V) (ms : List (Match V)) → [] ≡ m ∷ ms → ⊥
-no_match m ms e = cc
+use Rattle.daachorse_c.proofs.Heads.{heads, no_match, tails}
 
 first_shifted : {V : Type 0} (b : ℕ) (here none found : List (Match V)) → first_or (map (shifted b) here) (map (shifted b) none) (map (shifted b) found) ≡ map (shifted b) (first_or here none found)
 first_shifted b [] none found = refl

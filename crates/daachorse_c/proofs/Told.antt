@@ -1,10 +1,11 @@
 -- What was written so far of matches that are written one by one.
 use Rattle.std.proofs.Common.{◌≡◌, ℕ, ◌+◌, ◌<◌, ◌≤◌, List, [], ◌∷◌, ◌++◌, map, take, drop, length, get_or, refl, sym, ap, ◌∙◌, arith}
 use Rattle.std.specs.Prelude.{slice_set}
-use Rattle.std.proofs.lemmas.List.{drop_all, drop-drop, drop_more, length-drop, length-take, length-set, take_more}
+use Rattle.std.proofs.lemmas.List.{drop_all, drop-drop, drop_more, length-drop, length-take, take_more}
 use Rattle.daachorse_model.specs.declared.Match.{Match}
 use Rattle.daachorse_c.specs.declared.found.CMatch.{CMatch}
 use Rattle.daachorse_c.specs.Writes.{Writes, c_match}
+use Rattle.daachorse_c.proofs.Heads.{heads}
 use Rattle.daachorse_c.proofs.Writing.{one_more}
 
 -- n of all matches were written to what was there, and these are left
@@ -39,9 +40,6 @@ told-first {all} {some} {rest} {old} {new} {n} same w is = record {
 -- where there is room, none is left
 pub none_left : {some rest : List (Match ℕ)} {old new : List CMatch} {n : ℕ} → Writes some old new n → rest ≡ drop n some → n < length old → rest ≡ []
 none_left {some} {rest} {old} {new} {n} w is lt = is ∙ drop_all n some (omega (arith, w.whole lt))
-
-heads : (x m : Match ℕ) (xs ms : List (Match ℕ)) → x ∷ xs ≡ m ∷ ms → x ≡ m
-heads x m xs ms e = cc
 
 -- one match more
 pub told-one : {all rest : List (Match ℕ)} {old new : List CMatch} {n : ℕ} (m : Match ℕ) (ms : List (Match ℕ)) → Told all rest old new n → rest ≡ m ∷ ms → n < length old

@@ -1,5 +1,5 @@
 -- The options of a build, as C gives them.
-use Rattle.std.specs.Prelude.{◌≡◌, ◌≢◌, ◌⊎◌, ℕ, ◌≤◌, ◌==◌, Bool, not, List, [], ◌∷◌}
+use Rattle.std.specs.Prelude.{◌≡◌, ◌⊎◌, ℕ, ◌≤◌, ◌==◌, Bool, not, List, [], ◌∷◌}
 use Rattle.daachorse_bytewise.specs.Automata.{Automaton}
 use Rattle.daachorse_c.specs.declared.options.Options.{Options}
 use Rattle.daachorse_c.specs.declared.refusal.Refusal.{Refusal}

@@ -1,5 +1,5 @@
 -- The count goes up by the characters that begin between the two places, or down by them.
-use Rattle.std.proofs.Common.{◌≡◌, ◌≤◌, ap, ◌∙◌, arith}
+use Rattle.std.proofs.Common.{◌≡◌, ap, ◌∙◌, arith}
 use Rattle.std.proofs.lemmas.List.{take_min}
 use Rattle.daachorse_c.specs.Characters.{begins_character, characters_before}
 use Rattle.daachorse_c.proofs.CharacterLaws.{characters-between}

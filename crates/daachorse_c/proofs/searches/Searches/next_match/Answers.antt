@@ -6,7 +6,7 @@ use Rattle.daachorse_model.specs.Folding.{as_read}
 use Rattle.daachorse_bytewise.specs.Automata.{dictionary_of, kind_of}
 use Rattle.daachorse_c.specs.Held.{automaton_of}
 use Rattle.daachorse_c.specs.Places.{afresh, left_at}
-use Rattle.daachorse_c.proofs.Places.{left_empty, left_kept, left_none, left_same, none_weaker, pass_over}
+use Rattle.daachorse_c.proofs.Places.{left_kept, left_none, left_past, none_weaker, pass_over}
 use Rattle.daachorse_c.proofs.searches.Searches.next_match.Goals as goal
 
 pub returns-in_default-clause-none : goal.returns-in_default-clause-none
@@ -18,8 +18,7 @@ pub returns-then-leaves_out-clause-none : goal.returns-then-leaves_out-clause-no
 returns-then-leaves_out-clause-none c =
     let a = automaton_of c.args.self.now in let h = as_read a.folds c.args.haystack.now in let kind = kind_of a in let K = dictionary_of a in
     let p = c.args.place.now in let q = c.pass_first.new.place in let out = c.leaves_out.ensures.0 c.if-leaves_out.true in
-    let back : left_at kind K h p ≡ left_at kind K h (afresh q) =
-    left_empty kind K h p out.0 out.2 c.in-Some.found (left_at kind K h q) c.in-Some.ensures.some out.1 ∙ left_same kind K h q (c.in-Some.ensures.clear out.1) in
+    let back = left_past kind K h p q out.0 out.2 c.in-Some.found c.in-Some.ensures.some out.1 c.in-Some.ensures.clear in
     let again = c.pass_first-then-leaves_out in
     none_weaker again.result ((left_at kind K h (afresh q) ≡ []) × (again.new.place.over ≡ true)) ((left_at kind K h p ≡ []) × (left_at kind K h again.new.place ≡ []))
     (λ x. (back ∙ x.0, pass_over kind K h again.new.place x.1)) again.ensures.none
@@ -28,8 +27,7 @@ pub returns-then-leaves_out-clause-some : goal.returns-then-leaves_out-clause-so
 returns-then-leaves_out-clause-some c =
     let a = automaton_of c.args.self.now in let h = as_read a.folds c.args.haystack.now in let kind = kind_of a in let K = dictionary_of a in
     let p = c.args.place.now in let q = c.pass_first.new.place in let out = c.leaves_out.ensures.0 c.if-leaves_out.true in
-    let back : left_at kind K h p ≡ left_at kind K h (afresh q) =
-    left_empty kind K h p out.0 out.2 c.in-Some.found (left_at kind K h q) c.in-Some.ensures.some out.1 ∙ left_same kind K h q (c.in-Some.ensures.clear out.1) in
+    let back = left_past kind K h p q out.0 out.2 c.in-Some.found c.in-Some.ensures.some out.1 c.in-Some.ensures.clear in
     let again = c.pass_first-then-leaves_out in
     IfSome_then again.result again.ensures.some (λ x e. back ∙ e)
 

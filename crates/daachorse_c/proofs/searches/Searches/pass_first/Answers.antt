@@ -1,5 +1,5 @@
 -- What is found in the rest of the haystack is what is left, and the place moves behind its first match.
-use Rattle.std.proofs.Common.{◌≡◌, ◌+◌, ◌-◌, ◌≤◌, [], ◌∷◌, drop, length, take, refl, sym, ap, ◌∙◌, subst, length-drop, arith}
+use Rattle.std.proofs.Common.{◌≡◌, ◌-◌, ◌≤◌, [], ◌∷◌, drop, length, take, refl, sym, ap, ◌∙◌, length-drop, arith}
 use Rattle.std.proofs.lemmas.List.{take_rest}
 use Rattle.daachorse_model.specs.Folding.{as_read}
 use Rattle.daachorse_model.specs.Units.{byte_width}
@@ -7,7 +7,6 @@ use Rattle.daachorse_model.proofs.FoldLaws.{length-as_read}
 use Rattle.daachorse_bytewise.specs.Automata.{dictionary_of, kind_of}
 use Rattle.daachorse_bytewise.specs.ByKind.{non_overlapping}
 use Rattle.daachorse_c.specs.Held.{automaton_of}
-use Rattle.daachorse_c.specs.Places.{StandsBehind, left_at}
 use Rattle.daachorse_c.proofs.Places.{as_read-drop, found_within, none_first, pass_none, pass_some, some_first}
 use Rattle.daachorse_c.proofs.searches.Searches.pass_first.Goals as goal
 

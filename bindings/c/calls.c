@@ -1,5 +1,5 @@
-/* Calls that the table of rows has no form for: lookups, options, kinds and counts, and what
- * a caller may pass. Each row of a table here gives what the call must do. */
+/* Calls that the table of rows has no form for: lookups, options, kinds, counts, replacements, and
+ * what a caller may pass. Each row of a table here gives what the call must do. */
 #include "daachorse.h"
 
 #include <stdio.h>
@@ -157,6 +157,7 @@ static void see_nulls(void) {
     need(daachorse_find(&handle, NULL, 0, NULL, 0, &count) == DAACHORSE_DONE && count == 0, "find", 0);
     need(daachorse_get(&handle, NULL, 0, found, 1, &count) == DAACHORSE_DONE && count == 0, "get", 0);
     need(daachorse_is_match(&handle, NULL, 0, &is_found) == DAACHORSE_DONE && !is_found, "is_match", 0);
+    need(daachorse_replace(&handle, NULL, 0, NULL, 0, NULL, 0, NULL, 0, &size) == DAACHORSE_DONE && size == 0, "replace", 0);
     need(daachorse_begin(&handle, true) == DAACHORSE_DONE, "begin", 0);
     need(daachorse_consume(&handle, NULL, 0, NULL, 0, &size, &count) == DAACHORSE_DONE && size == 0 && count == 0, "consume", 0);
     need(daachorse_list(&handle, NULL, 0, NULL, 0, NULL, 0, &size, &count) == DAACHORSE_DONE && size == 0 && count == 0, "list", 0);
@@ -193,6 +194,72 @@ static void see_places(void) {
     }
 }
 
+/* What becomes of a haystack whose matches are replaced, in each room. The values 0, 1 and 2 have
+ * the texts "-", "" and "two". */
+static void see_replacements(void) {
+    static const struct {
+        uint32_t kind;
+        bool any_case;
+        const char *haystack, *whole;
+    } rows[] = {
+        {DAACHORSE_STANDARD, false, "", ""},
+        {DAACHORSE_STANDARD, false, "xyz", "xyz"},
+        {DAACHORSE_STANDARD, false, "xabcdbcx", "x-cdtwox"},
+        {DAACHORSE_STANDARD, false, "ababbc", "--two"},
+        {DAACHORSE_STANDARD, true, "XaBCDbC", "X-CDtwo"},
+        {DAACHORSE_LEFTMOST_LONGEST, false, "xabcdbcx", "xtwox"},
+        {DAACHORSE_LEFTMOST_LONGEST, true, "ABcD", ""},
+        {DAACHORSE_LEFTMOST_FIRST, false, "xabcdbcx", "x-cdtwox"},
+    };
+    const size_t ends[] = {1, 1, 4};
+    for (size_t i = 0; i < sizeof rows / sizeof *rows; i++)
+        for (size_t fast = 0; fast < 2; fast++) {
+            daachorse handle = DAACHORSE_EMPTY;
+            size_t len = strlen(rows[i].whole);
+            build(&handle, (daachorse_options){.kind = rows[i].kind, .ascii_case_insensitive = rows[i].any_case});
+            if (fast)
+                accelerate(&handle);
+            for (size_t room = 0; room <= len + 1; room++) {
+                char out[ROOM];
+                size_t size = 7;
+                memset(out, '?', ROOM);
+                uint32_t answer = daachorse_replace(&handle, bytes_of(rows[i].haystack), strlen(rows[i].haystack), bytes_of("-two"), 4,
+                    ends, 3, (uint8_t *)out, room, &size);
+                size_t copied = room < len ? room : len;
+                need(answer == (room < len ? DAACHORSE_NO_ROOM : DAACHORSE_DONE) && size == len, daachorse_answer_text(answer), i);
+                need(memcmp(out, rows[i].whole, copied) == 0 && out[copied] == '?', "what was replaced", i);
+            }
+            daachorse_free(&handle);
+        }
+}
+
+/* Why nothing is replaced. */
+static void see_no_replacements(void) {
+    static const struct {
+        size_t ends[2];
+        uint32_t answer;
+    } rows[] = {
+        {{0, 4}, DAACHORSE_DONE},
+        {{4, 4}, DAACHORSE_DONE},
+        {{3, 2}, DAACHORSE_WRONG_PATTERNS},
+        {{0, 5}, DAACHORSE_WRONG_PATTERNS},
+        {{SIZE_MAX, SIZE_MAX}, DAACHORSE_WRONG_PATTERNS},
+    };
+    daachorse handle = DAACHORSE_EMPTY;
+    uint8_t out[ROOM] = {7};
+    size_t size = 7;
+    need(daachorse_replace(&handle, bytes_of("ab"), 2, bytes_of("-two"), 4, rows[0].ends, 2, out, ROOM, &size) == DAACHORSE_EMPTY_HANDLE, "no handle", 0);
+    need(size == 0 && out[0] == 7, "what nothing replaces", 0);
+    build(&handle, (daachorse_options){0});
+    for (size_t i = 0; i < sizeof rows / sizeof *rows; i++) {
+        out[0] = size = 7;
+        uint32_t answer = daachorse_replace(&handle, bytes_of("xx"), 2, bytes_of("-two"), 4, rows[i].ends, 2, out, ROOM, &size);
+        bool done = answer == DAACHORSE_DONE;
+        need(answer == rows[i].answer && size == (done ? 2 : 0) && out[0] == (done ? 'x' : 7), daachorse_answer_text(answer), i);
+    }
+    daachorse_free(&handle);
+}
+
 /* A handle may be moved, also with a stream. */
 static void see_moves(void) {
     daachorse first = DAACHORSE_EMPTY, second;
@@ -214,6 +281,8 @@ int main(void) {
     see_characters();
     see_nulls();
     see_places();
+    see_replacements();
+    see_no_replacements();
     see_moves();
     return 0;
 }

@@ -111,7 +111,7 @@ static inline const char *daachorse_answer_text(uint32_t answer) {
     case DAACHORSE_EMPTY_HANDLE: return "the handle has no automaton";
     case DAACHORSE_UNKNOWN_KIND: return "no kind has this number";
     case DAACHORSE_WRONG_KIND: return "the search does not serve automata of this kind";
-    case DAACHORSE_WRONG_PATTERNS: return "the ends of the patterns fall, or pass their bytes";
+    case DAACHORSE_WRONG_PATTERNS: return "ends fall or pass the bytes, or are not as many as the values";
     case DAACHORSE_PATTERN_TOO_LONG: return "a pattern has more than 4294967295 bytes";
     case DAACHORSE_TOO_MANY_STATES: return "the patterns have too many prefixes";
     case DAACHORSE_TOO_MANY_PATTERNS: return "there are too many patterns";
@@ -225,6 +225,20 @@ uint32_t daachorse_common_prefixes(daachorse *handle, const uint8_t *text, size_
 /* Writes to found whether some pattern occurs in the haystack. It serves automata of every kind,
  * and allocates nothing. Returns DAACHORSE_DONE or, with false in found, DAACHORSE_EMPTY_HANDLE. */
 uint32_t daachorse_is_match(daachorse *handle, const uint8_t *haystack, size_t haystack_len, bool *found);
+
+/* Writes the haystack, with its matches replaced, to the front of out, and the length of the whole
+ * to size, or SIZE_MAX if it is longer. The matches are those of daachorse_find, or for a leftmost
+ * kind those of daachorse_leftmost_find. Text i, counted from 0, stands in bytes from ends[i - 1],
+ * or 0 for the first, up to ends[i], exclusive. It replaces the matches with the value i, and a
+ * match whose value is ends_len or more stays as it is. The call allocates nothing, and takes time
+ * linear in the haystack, the ends and out_len, but with a leftmost kind that of
+ * daachorse_leftmost_find and of copying.
+ *
+ * Returns DAACHORSE_DONE or, with out unchanged and 0 in size, DAACHORSE_EMPTY_HANDLE, or
+ * DAACHORSE_WRONG_PATTERNS if ends fall or pass the bytes, or, with the first out_len bytes of the
+ * whole in out, DAACHORSE_NO_ROOM. */
+uint32_t daachorse_replace(daachorse *handle, const uint8_t *haystack, size_t haystack_len, const uint8_t *bytes,
+        size_t bytes_len, const size_t *ends, size_t ends_len, uint8_t *out, size_t out_len, size_t *size);
 
 /* A stream is a haystack that comes in pieces. Matches may cross pieces, and offsets count from the
  * beginning of the stream. A handle has at most one, which daachorse_build, daachorse_read and
@@ -372,6 +386,16 @@ static inline uint32_t daachorse_is_match_in_c(daachorse *handle, const uint8_t 
     return daachorse_is_match(handle, (const uint8_t *)daachorse_some(haystack), haystack_len, found);
 }
 #define daachorse_is_match daachorse_is_match_in_c
+
+static inline uint32_t daachorse_replace_in_c(daachorse *handle, const uint8_t *haystack, size_t haystack_len,
+        const uint8_t *bytes, size_t bytes_len, const size_t *ends, size_t ends_len, uint8_t *out, size_t out_len,
+        size_t *size) {
+    *size = 0;
+    return daachorse_replace(handle, (const uint8_t *)daachorse_some(haystack), haystack_len,
+            (const uint8_t *)daachorse_some(bytes), bytes_len, (const size_t *)daachorse_some(ends), ends_len,
+            (uint8_t *)daachorse_room(out), out_len, size);
+}
+#define daachorse_replace daachorse_replace_in_c
 
 static inline uint32_t daachorse_consume_in_c(daachorse *handle, const uint8_t *bytes, size_t bytes_len,
         daachorse_match *out, size_t out_len, size_t *taken, size_t *written) {

@@ -201,6 +201,49 @@ impl Automaton {
         found
     }
 
+    /// Returns the haystack with each match replaced by the text whose number, counted from 0, is
+    /// its value, if there is one. The matches are those of [`Automaton::find`], or for a leftmost
+    /// kind those of [`Automaton::leftmost_find`].
+    ///
+    /// ```
+    /// use daachorse_c::{Automaton, Kind};
+    ///
+    /// let patterns: [&[u8]; 3] = [b"ab", b"abcd", b"x"];
+    /// let automaton = Automaton::new(Kind::LeftmostLongest, true, patterns)?;
+    /// assert_eq!(automaton.replace(b"xabcdab", &["one", "two"]), b"xtwoone");
+    /// # Ok::<(), daachorse_c::Refusal>(())
+    /// ```
+    pub fn replace<T: AsRef<[u8]>>(&self, haystack: &[u8], texts: &[T]) -> Vec<u8> {
+        let (mut bytes, mut ends) = (Vec::new(), Vec::new());
+        for text in texts {
+            bytes.extend_from_slice(text.as_ref());
+            ends.push(bytes.len());
+        }
+        let mut out = vec![0; haystack.len()];
+        let mut size = 0;
+        loop {
+            // The handle has an automaton and the ends are right, so only room is refused.
+            let answer = self.handles.with(|handle| unsafe {
+                daachorse_replace(
+                    handle,
+                    haystack.as_ptr(),
+                    haystack.len(),
+                    bytes.as_ptr(),
+                    bytes.len(),
+                    ends.as_ptr(),
+                    ends.len(),
+                    out.as_mut_ptr(),
+                    out.len(),
+                    &mut size,
+                )
+            });
+            out.resize(size, 0);
+            if answer != Refusal::NoRoom as u32 {
+                return out;
+            }
+        }
+    }
+
     /// Begins a stream, for all matches or for those of [`Automaton::find`]. An automaton has any
     /// number of streams, which may outlive it.
     ///

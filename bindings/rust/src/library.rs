@@ -89,6 +89,18 @@ extern "C" {
         len: usize,
         found: *mut bool,
     ) -> u32;
+    pub(crate) fn daachorse_replace(
+        handle: *mut Handle,
+        haystack: *const u8,
+        len: usize,
+        bytes: *const u8,
+        bytes_len: usize,
+        ends: *const usize,
+        ends_len: usize,
+        out: *mut u8,
+        room: usize,
+        size: *mut usize,
+    ) -> u32;
     pub(crate) fn daachorse_begin(handle: *mut Handle, overlapping: bool) -> u32;
     pub(crate) fn daachorse_consume(
         handle: *mut Handle,

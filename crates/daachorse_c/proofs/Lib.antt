@@ -1,5 +1,7 @@
 mod CharacterLaws
 mod Crossing
+mod Cut
+mod Ends
 mod Heads
 mod LeftmostOn
 mod Listed

@@ -15,7 +15,7 @@ use Rattle.daachorse_bytewise.specs.ByKind.{non_overlapping}
 use Rattle.daachorse_search.specs.Afresh.{shifted}
 use Rattle.daachorse_c.specs.declared.place.Place.{Place}
 use Rattle.daachorse_c.specs.Places.{StandsBehind, afresh, found_from, left_at}
-use Rattle.daachorse_search.proofs.AfreshLaws.{shifted-twice}
+use Rattle.daachorse_search.proofs.AfreshLaws.{shifted-none, shifted-twice}
 use Rattle.daachorse_c.proofs.Heads.{no_match}
 use Rattle.daachorse_c.proofs.LeftmostOn.{IsAfter, after_nonempty, behind, leftmost-shifted}
 use Rattle.daachorse_c.proofs.StandardOn.{follows_first}
@@ -176,3 +176,7 @@ module _ (kind : MatchKind) (K : Dictionary ℕ) (h : List ℕ) (p : Place) wher
 pub left_past : (kind : MatchKind) (K : Dictionary ℕ) (h : List ℕ) (p q : Place) → p.after ≡ true → kind ≢ Standard → (m : Match ℕ) → left_at kind K h (afresh p) ≡ m ∷ left_at kind K h q → m.end ≡ p.at
     → (m.end ≡ p.at → q.after ≡ false) → left_at kind K h p ≡ left_at kind K h (afresh q)
 left_past kind K h p q is not m e at clear = left_empty kind K h p is not m (left_at kind K h q) e at ∙ left_same kind K h q (clear at)
+
+-- at the beginning all is left
+pub left_whole : (kind : MatchKind) (K : Dictionary ℕ) (h : List ℕ) → left_at kind K h (record { at = 0; after = false; over = false }) ≡ non_overlapping kind byte_width K h
+left_whole kind K h = from_place K kind 0 h ∙ shifted-none (non_overlapping kind byte_width K h)

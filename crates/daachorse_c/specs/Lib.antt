@@ -8,6 +8,7 @@ pub mod Options
 pub mod Patterns
 pub mod Places
 pub mod Refusals
+pub mod Replacing
 pub mod Searches
 pub mod Streaming
 pub mod Streams

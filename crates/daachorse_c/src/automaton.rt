@@ -13,6 +13,7 @@ ghost use Rattle.daachorse_c.specs.Counts.{AreCounts};
 ghost use Rattle.daachorse_c.specs.Held.{automaton_of};
 ghost use Rattle.daachorse_c.specs.Listing.{IsNotListed, HasListed, arrays};
 ghost use Rattle.daachorse_c.specs.Places.{GoesOn, IsStuckCause};
+ghost use Rattle.daachorse_c.specs.Replacing.{HasReplaced, IsNotReplaced};
 ghost use Rattle.daachorse_c.specs.Searches.{ServesKind, found_by};
 ghost use Rattle.daachorse_c.specs.Streaming.{HasBegun, HasConsumed, IsIdleCause};
 ghost use Rattle.daachorse_c.specs.Writes.{Writes};
@@ -23,6 +24,7 @@ use crate::found::CMatch;
 use crate::listing::{Listing, Room};
 use crate::place::Place;
 use crate::refusal::Refusal;
+use crate::replacing::Texts;
 use crate::room::{copy_to_front, put_in_front};
 use crate::search::SearchKind;
 use crate::searches::Searches;
@@ -223,6 +225,29 @@ impl Searcher {
         put_in_front(&listing.bytes, bytes);
         put_in_front(&listing.ends, ends);
         put_in_front(&listing.values, values);
+        Ok(())
+    }
+
+    /// Writes the haystack, with its matches replaced, to the front of `out`, as much as there is
+    /// room for, and the length of the whole to `size`.
+    pub(crate) fn replace(
+        &self,
+        haystack: &[u8],
+        texts: Texts<'_>,
+        out: &mut [u8],
+        size: &mut usize,
+    ) -> Result<(), Refusal>
+        ensures replaced { OnOk result (HasReplaced texts.entry.bytes.now texts.entry.ends.now haystack.now self.now.searches out.old out.new size.new) }
+        ensures err { IfErr result (IsNotReplaced texts.entry.bytes.now texts.entry.ends.now haystack.now self.now.searches out.old out.new size.new) }
+    {
+        *size = 0;
+        if !texts.are_right() {
+            return Err(Refusal::WrongPatterns);
+        }
+        *size = self.searches.replace(haystack, texts, out);
+        if out.len() < *size {
+            return Err(Refusal::NoRoom);
+        }
         Ok(())
     }
 

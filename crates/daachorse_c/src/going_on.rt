@@ -35,7 +35,7 @@ impl Searches {
     }
 
     /// Returns the next match, and moves the place behind it.
-    fn next_match(&self, haystack: &[u8], place: &mut Place) -> Option<Match<u32>>
+    pub(crate) fn next_match(&self, haystack: &[u8], place: &mut Place) -> Option<Match<u32>>
         requires { place.old.at ≤ length haystack.now }
         ensures within { place.new.at ≤ length haystack.now }
         ensures none { IfNone result ((left_of (automaton_of self.now) haystack.now place.old ≡ []) × (left_of (automaton_of self.now) haystack.now place.new ≡ [])) }

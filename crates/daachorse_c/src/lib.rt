@@ -19,6 +19,7 @@ ghost use Rattle.daachorse_c.specs.Listing.{IsListCause, HasListed, arrays};
 ghost use Rattle.daachorse_c.specs.Options.{IsBuiltWithOptions, IsOptionsCause};
 ghost use Rattle.daachorse_c.specs.Places.{IsGoingOn};
 ghost use Rattle.daachorse_c.specs.Refusals.{IsDoneOr, refusal_number};
+ghost use Rattle.daachorse_c.specs.Replacing.{HasReplaced, IsReplaceCause};
 ghost use Rattle.daachorse_c.specs.Searches.{IsSearchOf, IsShareCause, IsUseCause};
 ghost use Rattle.daachorse_c.specs.Streaming.{HasBegun, IsBeginCause, IsConsumption};
 ghost use Rattle.daachorse_c.specs.Written.{IsRead, IsReadCause, IsWhole, IsWriteCause, StandsInFront, form_of};
@@ -33,6 +34,7 @@ use crate::options::Options;
 use crate::place::Place;
 use crate::reading::read;
 use crate::refusal::Refusal;
+use crate::replacing::Texts;
 use crate::search::SearchKind;
 use std::alloc::Global;
 
@@ -50,6 +52,7 @@ mod patterns;
 mod place;
 mod reading;
 mod refusal;
+mod replacing;
 mod room;
 mod search;
 mod searches;
@@ -430,6 +433,44 @@ pub extern "C" fn daachorse_is_match(
     *found = automaton.is_match(haystack);
     handle.put(automaton);
     DONE
+}
+
+/// Writes the haystack, with its matches replaced, to the front of `out`, as much as there is room
+/// for, and the length of the whole to `size`, or `usize::MAX` if it is longer.
+///
+/// The matches are those of [`daachorse_find_on`] from the beginning. The texts that replace them
+/// end in `bytes` at each of `ends`, and each begins where the previous one ends. A match is
+/// replaced by the text whose number, counted from 0, is its value, and stays if there is none.
+///
+/// # Errors
+///
+/// The numbers of [`Refusal::EmptyHandle`], and of `WrongPatterns` if the ends decrease or pass the
+/// bytes. Nothing is written to `out` then, and 0 to `size`. The number of `NoRoom`, with the
+/// length needed in `size`: then `out` has as much as there is room for.
+#[unsafe(no_mangle)]
+pub extern "C" fn daachorse_replace(
+    alloc: Global,
+    handle: &mut Handle,
+    haystack: &[u8],
+    bytes: &[u8],
+    ends: &[usize],
+    out: &mut [u8],
+    size: &mut usize,
+) -> u32
+    ensures kept { handle.new.automaton ≡ handle.old.automaton }
+    ensures replaced { result ≡ 0 → IsSomeAnd handle.old.automaton (λ a. HasReplaced bytes.now ends.now haystack.now a.searches out.old out.new size.new) }
+    ensures refused { IsDoneOr (IsReplaceCause bytes.now ends.now haystack.now handle.old.automaton out.old out.new size.new) result }
+{
+    *size = 0;
+    let Some(automaton) = handle.take(alloc) else {
+        return Refusal::EmptyHandle.number();
+    };
+    let answer = automaton.replace(haystack, Texts { bytes, ends }, out, size);
+    handle.put(automaton);
+    match answer {
+        Ok(()) => DONE,
+        Err(refusal) => refusal.number(),
+    }
 }
 
 /// Begins a stream, a haystack that comes in pieces, for all matches or those of

@@ -15,6 +15,7 @@ FILES = {
     "daachorse::bytewise": [
         "daachorse_bytewise/src/bytewise.rt", "daachorse_bytewise/src/bytewise/builder.rt",
         "daachorse_bytewise/src/bytewise/by_kind.rt", "daachorse_bytewise/src/bytewise/lookup.rt",
+        "daachorse_bytewise/src/bytewise/leftmost_streams.rt",
         "daachorse_bytewise/src/bytewise/reader.rt",
         "daachorse_bytewise/src/bytewise/replacing.rt",
         "daachorse_bytewise/src/bytewise/streaming.rt",
@@ -23,6 +24,7 @@ FILES = {
     "daachorse::charwise": [
         "daachorse_charwise/src/charwise.rt", "daachorse_charwise/src/charwise/builder.rt",
         "daachorse_charwise/src/charwise/by_kind.rt", "daachorse_charwise/src/charwise/lookup.rt",
+        "daachorse_charwise/src/charwise/leftmost_streams.rt",
         "daachorse_charwise/src/charwise/reader.rt",
         "daachorse_charwise/src/charwise/replacing.rt",
         "daachorse_charwise/src/charwise/streaming.rt",
@@ -32,8 +34,10 @@ FILES = {
         "daachorse_search/src/stepper.rt",
         "daachorse_search/src/find_stepper.rt", "daachorse_search/src/overlapping_stepper.rt",
         "daachorse_search/src/matches.rt", "daachorse_search/src/matches_from.rt",
-        "daachorse_search/src/matches_from_reader.rt", "daachorse_search/src/leftmost.rt"],
-    "daachorse": ["daachorse_model/src/lib.rt"],
+        "daachorse_search/src/matches_from_reader.rt", "daachorse_search/src/leftmost.rt",
+        "daachorse_streams/src/leftmost_stream.rt",
+        "daachorse_streams/src/leftmost_from_reader.rt"],
+    "daachorse": ["daachorse_model/src/lib.rt", "daachorse_streams/src/stream_marks.rt"],
     "daachorse::errors": ["daachorse_core/src/errors.rt"],
     "daachorse::laws": ["daachorse_model/src/laws.rt"],
     "daachorse::serializer": ["daachorse_serializer/src/serializer.rt"],

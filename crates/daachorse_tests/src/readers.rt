@@ -95,7 +95,7 @@ pub struct Failing {
 }
 
 /// A reader that gives these bytes, and then fails with [`ErrorKind::ConnectionReset`].
-pub fn failing(left: &'static [u8]) -> Failing {
+pub fn failing_after(left: &'static [u8]) -> Failing {
     Failing {
         was_interrupted: false,
         left,
@@ -256,7 +256,7 @@ fn readers_are_searched(rt: HostRuntime) -> Result<(), Fail> {
 #[test]
 fn an_error_comes_after_the_matches_before_it(rt: HostRuntime) -> Result<(), Fail> {
     let words: Bytewise = DoubleArrayAhoCorasick::new(rt.alloc(), [b"ab".as_slice(), b"b"])?;
-    let items = words.find_overlapping_iter_from_reader(rt.alloc(), failing(b"xabxb"))?;
+    let items = words.find_overlapping_iter_from_reader(rt.alloc(), failing_after(b"xabxb"))?;
     let expected = [(1, 3, 0), (2, 3, 1), (4, 5, 1)];
     let reset = Some(ErrorKind::ConnectionReset);
     expect(

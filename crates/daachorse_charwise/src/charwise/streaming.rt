@@ -27,10 +27,11 @@ impl<V: Copy, A: Allocator + Copy> CharwiseDoubleArrayAhoCorasick<V, A> {
     /// Writes the text that a reader gives, and in place of each match what `write` writes for it.
     ///
     /// `write` gets the match, the bytes of the text that matched, and the writer. The matches are
-    /// those of [`Self::find_iter`]. Of `ab` and `b`, each replaced by its length, `abxb` becomes
+    /// those of [`Self::replace_all`]. Of `ab` and `b`, each replaced by its length, `abxb` becomes
     /// `2x1`.
     ///
-    /// It holds at most as many bytes as the longest pattern has, and two blocks of 64 KiB. To find
+    /// It holds at most as many bytes as the longest pattern has, and two blocks of 64 KiB. For
+    /// leftmost matches it also holds as many units, and what [`Self::stream_marks`] makes. To find
     /// the longest it lists the patterns first, for which it takes what [`Self::iter`] takes.
     ///
     /// Stops at the first error, of the reader, of the writer, of `write` or of an allocation, and

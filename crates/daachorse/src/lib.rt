@@ -55,4 +55,5 @@ pub use daachorse_placement::build_helper;
 pub use daachorse_prefilter::prefilter;
 pub use daachorse_serializer::serializer::Serializable;
 pub use daachorse_serializer::{intpack, serializer};
+pub use daachorse_streams::leftmost_standing::LeftmostStanding;
 pub use daachorse_streams::stream_marks::StreamMarks;

@@ -3,6 +3,7 @@ pub mod Building
 pub mod Frequencies
 pub mod WrittenForms
 pub mod ReadForms
+pub mod Standings
 pub mod Accelerated
 pub use Rattle.daachorse_charwise_states.specs.PartForms
 pub use Rattle.daachorse_charwise_states.specs.StateRows

@@ -1,9 +1,9 @@
 -- A stream's search: where it begins, when it has room for a unit, what is certain, and its turns.
-use Rattle.std.proofs.Common.{◌≡◌, ℕ, ◌+◌, ◌*◌, ◌^◌, ◌<◌, ◌≤◌, ◌⊎◌, inl, inr, Bool, true, false, cond, List, [], ◌∷◌, ◌++◌, length, map, Option, Some, None, refl, sym, ap, ◌∙◌, subst, append_assoc, append-nil, length-append, arith}
+use Rattle.std.proofs.Common.{◌≡◌, ℕ, ◌+◌, ◌*◌, ◌^◌, ◌<◌, ◌≤◌, ◌⊎◌, inl, inr, Bool, true, false, cond, List, [], ◌∷◌, ◌++◌, length, map, drop, Option, Some, None, refl, sym, ap, ◌∙◌, subst, append_assoc, append-nil, length-append, arith}
 use Rattle.std.specs.VecDeque.{deque_capacity}
 use Rattle.std.specs.declared.collections.VecDeque.{VecDeque}
 use Rattle.std.proofs.lemmas.Bool.{le-ltb, ltb-false}
-use Rattle.std.proofs.lemmas.List.{length-map, map-append, nil_from_length}
+use Rattle.std.proofs.lemmas.List.{drop-map, drop_at, length-map, map-append, nil_from_length}
 use Rattle.daachorse_core.specs.Seen.{SeenUnits, unread}
 use Rattle.daachorse_model.specs.declared.Match.{Match}
 use Rattle.daachorse_model.specs.Units.{size}
@@ -83,11 +83,12 @@ module _ {V : Type 0} (width : ℕ → ℕ) (wide : (u : ℕ) → 1 ≤ width u)
         by true e quiet = cc
         by false e quiet = (e, omega (arith, ltb-false s.walked (length s.ring.items) quiet, walked_within width view unit is))
 
-    -- where all units were read, the scan's place is behind them
-    pub behind_all : s.walked ≡ length s.ring.items → s.scan.place ≡ size width s.seen.since
-    behind_all all =
-        let none = none_ahead all in
-        omega (arith, place_is width view unit is, ap (size width) is.parts, ap (λ ahead. size width (is.passed ++ (is.w ++ ahead))) none, ap (λ w. size width (is.passed ++ w)) (append-nil is.w), size-append width is.passed is.w)
+    -- the units that are left come behind the scan's place
+    pub place_before : s.scan.place + size width (map unit (drop s.walked s.ring.items)) ≡ size width s.seen.since
+    place_before =
+        let left : map unit (drop s.walked s.ring.items) ≡ is.ahead =
+        sym (drop-map unit s.walked s.ring.items) ∙ ap (drop s.walked) is.ring ∙ drop_at is.behind is.ahead s.walked (sym is.walked) in
+        omega (arith, place_is width view unit is, ap (size width) left, ap (size width) is.parts, size-append width is.passed (is.w ++ is.ahead), size-append width is.w is.ahead)
 
     -- where all units were read and none is decided, there is room for one more
     pub has_room : s.scan.decided ≡ false → s.walked ≡ length s.ring.items → length s.ring.items < deque_capacity s.ring

@@ -5,4 +5,5 @@ pub mod Marks
 pub mod Replacing
 pub mod Scans
 pub mod Searching
+pub mod Standings
 pub mod Streamed

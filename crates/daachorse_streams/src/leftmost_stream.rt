@@ -8,8 +8,10 @@ ghost use Rattle.daachorse_model.specs.Units.{size};
 ghost use Rattle.daachorse_search.specs.BestScans.{HasNoLongerKey};
 ghost use Rattle.daachorse_search.specs.Views.{IsLeftmostView};
 ghost use Rattle.daachorse_streams.specs.Marked.{BeginsStreaming, IsMarkedFor};
+ghost use Rattle.daachorse_streams.specs.Standings.{IsLeftmostStanding, streamed_by};
 ghost use Rattle.daachorse_streams.specs.Streamed.{IsSameStream, IsSettled};
 
+use crate::leftmost_standing::LeftmostStanding;
 use crate::scan::begin;
 use crate::search::{Search, give, walk};
 use crate::stream_marks::StreamMarks;
@@ -38,23 +40,14 @@ pub struct LeftmostStream<'a, V: Copy, A: Automaton<V>, ALLOC: Allocator> {
 }
 
 impl<'a, V: Copy, A: Automaton<V>, ALLOC: Allocator> Model for LeftmostStream<'a, V, A, ALLOC> {
-    ghost use Rattle.std.specs.Prelude.{take, length};
-    ghost use Rattle.daachorse_model.specs.Leftmost.{leftmost};
     ghost use Rattle.daachorse_streams.specs.Children.{HasMarks};
-    ghost use Rattle.daachorse_streams.specs.Searching.{IsSearching, waits};
+    ghost use Rattle.daachorse_streams.specs.Searching.{IsSearching};
+    ghost use Rattle.daachorse_streams.specs.Standings.{streamed};
     ghost use Rattle.daachorse_streams.specs.Streamed.{LeftmostStreamed};
 
     ghost Value = { LeftmostStreamed V A };
 
-    ghost view = { λ s. record {
-      automaton = s.automaton;
-      folds = s.folds;
-      read = s.search.seen.since;
-      given = take s.search.seen.given (leftmost A.Unit.width (A.sees s.automaton).content s.search.seen.since);
-      waiting = waits s.search.scan.decided s.search.walked (length s.search.ring.items);
-      ended = s.search.ended;
-      turns = s.search.turns;
-    } };
+    ghost view = { λ s. streamed A.Unit.width A.sees s.automaton s.folds s.search };
 
     ghost invariant = { λ s. HasMarks (A.sees s.automaton) s.marks.now
         × IsSearching A.Unit.width (A.sees s.automaton) A.Unit.unit s.search };
@@ -99,16 +92,56 @@ impl<'a, V: Copy, A: Automaton<V>, ALLOC: Allocator> LeftmostStream<'a, V, A, AL
         })
     }
 
-    /// The number of bytes consumed.
+    /// A search that goes on from where another over the same automaton stood. What was consumed
+    /// stays as it was read.
     ///
     /// # Conditions
-    /// All certain matches were asked for.
+    /// The search stood in the automaton, and the marks are its own.
+    #[inline(always)]
+    pub fn resume<B: Allocator>(
+        automaton: A,
+        marks: &'a StreamMarks<B>,
+        folds: bool,
+        standing: LeftmostStanding<A::Unit, ALLOC>,
+    ) -> Self
+        requires marks { IsMarkedFor A.Unit.width (A.sees automaton) marks.now }
+        requires stands { IsLeftmostStanding A.Unit.width A.sees automaton A.Unit.unit standing }
+        ensures { result ≡ streamed_by A.Unit.width A.sees automaton folds standing }
+    {
+        LeftmostStream {
+            automaton,
+            marks: &marks.children,
+            folds,
+            search: standing.search,
+            of: PhantomData,
+        }
+    }
+
+    /// Where the search stands.
+    #[inline(always)]
+    pub fn into_standing(self) -> LeftmostStanding<A::Unit, ALLOC>
+        ensures stands { IsLeftmostStanding A.Unit.width A.sees self.entry.automaton A.Unit.unit result }
+        ensures same { streamed_by A.Unit.width A.sees self.entry.automaton self.entry.folds result ≡ self.entry }
+    {
+        let place = self.place();
+        LeftmostStanding {
+            search: self.search,
+            place,
+        }
+    }
+
+    /// The number of bytes consumed. It goes over the units that are still to read: none, if all
+    /// certain matches were asked for.
     #[inline(always)]
     pub fn place(&self) -> usize
-        requires { self.now.waiting ≡ false }
         ensures { result ≡ size A.Unit.width self.now.read }
     {
-        self.search.scan.place
+        let ring = &self.search.ring;
+        let mut place = self.search.scan.place;
+        'units: for index in self.search.walked..ring.len() {
+            place += ring[index].num_bytes();
+        }
+        place
     }
 
     /// Takes the next unit. It takes no memory, and looks at no state.

@@ -2,6 +2,7 @@
 #![tactic(auto)]
 
 pub mod leftmost_from_reader;
+pub mod leftmost_standing;
 pub mod leftmost_stream;
 pub mod marks;
 pub mod replacing;

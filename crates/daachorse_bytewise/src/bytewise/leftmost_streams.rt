@@ -8,13 +8,16 @@ ghost use Rattle.daachorse_model.specs.declared.MatchKind.TheVariants.{Standard}
 ghost use Rattle.daachorse_model.specs.Units.{byte_width};
 ghost use Rattle.daachorse_bytewise_states.specs.Valid.{sees};
 ghost use Rattle.daachorse_streams.specs.Marked.{BeginsLeftmostInBlocks, BeginsReadingLeftmost, BeginsStreaming, IsMarkedFor};
+ghost use Rattle.daachorse_streams.specs.Standings.{streamed_by};
 ghost use Rattle.daachorse_bytewise.specs.Automata.{kind_of, states_of};
+ghost use Rattle.daachorse_bytewise.specs.Standings.{IsLeftmostStandingIn};
 
 use super::DoubleArrayAhoCorasick;
 use super::iter::{LeftmostReaderIterator, LeftmostStream};
 use daachorse_core::errors::Result;
 use daachorse_search::reader::{ReadBytes, in_blocks};
 use daachorse_streams::leftmost_from_reader::LeftmostFromReader;
+use daachorse_streams::leftmost_standing::LeftmostStanding;
 use daachorse_streams::leftmost_stream;
 use daachorse_streams::stream_marks::StreamMarks;
 use std::alloc::Allocator;
@@ -61,6 +64,26 @@ impl<V: Copy, A: Allocator> DoubleArrayAhoCorasick<V, A> {
         let stream = leftmost_stream::LeftmostStream::new(alloc, states, marks, self.folds)?;
         Ok(stream)
     }
+
+    /// Resumes a search of [`Self::leftmost_stream`] over this automaton. Places still count from
+    /// the beginning of the whole haystack.
+    ///
+    /// # Conditions
+    /// As of [`Self::leftmost_stream`], and the search stood in this automaton.
+    pub fn resume_leftmost_stream<'a, B: Allocator, C: Allocator>(
+        &'a self,
+        marks: &'a StreamMarks<C>,
+        standing: LeftmostStanding<u8, B>,
+    ) -> LeftmostStream<'a, V, B>
+        requires kind { kind_of self.now ≢ Standard }
+        requires marks { IsMarkedFor byte_width (sees (states_of self.now)) marks.now }
+        requires stands { IsLeftmostStandingIn (states_of self.now) standing }
+        ensures { result ≡ streamed_by byte_width sees (states_of self.entry.now) self.entry.now.folds standing }
+    {
+        let states = self.states.leftmost();
+        leftmost_stream::LeftmostStream::resume(states, marks, self.folds, standing)
+    }
+
     /// Finds the matches of [`Self::leftmost_find_iter`] in what a reader gives, each as soon as it
     /// is certain. So a call reads past a match that could be longer.
     ///

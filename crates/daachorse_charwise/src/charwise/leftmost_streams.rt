@@ -8,7 +8,9 @@ ghost use Rattle.daachorse_model.specs.declared.MatchKind.TheVariants.{Standard}
 ghost use Rattle.daachorse_model.specs.Units.{char_width};
 ghost use Rattle.daachorse_charwise_states.specs.Valid.{sees};
 ghost use Rattle.daachorse_streams.specs.Marked.{BeginsLeftmostInBlocks, BeginsReadingLeftmost, BeginsStreaming, IsMarkedFor};
+ghost use Rattle.daachorse_streams.specs.Standings.{streamed_by};
 ghost use Rattle.daachorse_charwise.specs.Automata.{kind_of, states_of};
+ghost use Rattle.daachorse_charwise.specs.Standings.{IsLeftmostStandingIn};
 
 use super::CharwiseDoubleArrayAhoCorasick;
 use super::iter::{LeftmostReaderIterator, LeftmostStream};
@@ -16,6 +18,7 @@ use daachorse_core::errors::Result;
 use daachorse_search::read_chars::ReadChars;
 use daachorse_search::reader::in_blocks;
 use daachorse_streams::leftmost_from_reader::LeftmostFromReader;
+use daachorse_streams::leftmost_standing::LeftmostStanding;
 use daachorse_streams::leftmost_stream;
 use daachorse_streams::stream_marks::StreamMarks;
 use std::alloc::Allocator;
@@ -62,6 +65,26 @@ impl<V: Copy, A: Allocator> CharwiseDoubleArrayAhoCorasick<V, A> {
         let stream = leftmost_stream::LeftmostStream::new(alloc, states, marks, self.folds)?;
         Ok(stream)
     }
+
+    /// Resumes a search of [`Self::leftmost_stream`] over this automaton. Places still count from
+    /// the beginning of the whole haystack.
+    ///
+    /// # Conditions
+    /// As of [`Self::leftmost_stream`], and the search stood in this automaton.
+    pub fn resume_leftmost_stream<'a, B: Allocator, C: Allocator>(
+        &'a self,
+        marks: &'a StreamMarks<C>,
+        standing: LeftmostStanding<char, B>,
+    ) -> LeftmostStream<'a, V, B>
+        requires kind { kind_of self.now ≢ Standard }
+        requires marks { IsMarkedFor char_width (sees (states_of self.now)) marks.now }
+        requires stands { IsLeftmostStandingIn (states_of self.now) standing }
+        ensures { result ≡ streamed_by char_width sees (states_of self.entry.now) self.entry.now.folds standing }
+    {
+        let states = self.states.leftmost();
+        leftmost_stream::LeftmostStream::resume(states, marks, self.folds, standing)
+    }
+
     /// Finds the matches of [`Self::leftmost_find_iter`] in what a reader gives, each as soon as it
     /// is certain. So a call reads past a match that could be longer.
     ///

@@ -3,4 +3,3 @@ pub use Rattle.daachorse_replacing.proofs.Sending
 pub use Rattle.daachorse_search.proofs.MatchesLaws
 pub mod WrittenLaws
 pub mod RowedLaws
-pub mod ReplacedLaws

@@ -1,9 +1,9 @@
 -- What a reader gave went to the output with each match replaced: its bytes, or the characters that they spell.
-use Rattle.std.proofs.Common.{◌≡◌, ℕ, inl, inr, List, [], ◌∷◌, ◌++◌, Option, Some, None, Result, refl, sym, ap, ◌∙◌, subst, append-nil}
+use Rattle.std.proofs.Common.{◌≡◌, ℕ, inl, inr, List, [], ◌∷◌, ◌++◌, Option, Some, None, Result, Ok, Err, refl, sym, ap, ◌∙◌, subst, append-nil}
 use Rattle.std.proofs.lemmas.Bool.{false≢true}
 use Rattle.std.proofs.lemmas.List.{map-id}
 use Rattle.std.proofs.lemmas.List.Elements.{All-cons, All-nil}
-use Rattle.std.specs.Prelude.{All, IfSome, IsSome, ⊤, flat_map}
+use Rattle.std.specs.Prelude.{All, IfSome, IsSome, OnErr, OnOk, ⊤, flat_map}
 use Rattle.std.specs.Borrow.{MutBor}
 use Rattle.std.specs.Char.{IsScalar, encode_utf8}
 use Rattle.std.specs.Io.KnownBytes.{Consumes, IsAtEnd}
@@ -14,7 +14,7 @@ use Rattle.std.proofs.KnownBytes.{Consumes-nil, Consumes-trans}
 use Rattle.daachorse_model.specs.declared.Match.{Match}
 use Rattle.daachorse_search.specs.Readers.{GivesByte, GivesCharacter, Reading, to_read}
 use Rattle.daachorse_replacing.specs.ReplacedWith.{IsReplaced, IsReplacedSoFar}
-use Rattle.daachorse_replacing.specs.Streams.{IsReadReplaced, IsReadReplacedSoFar, IsStreamed, IsStreamedSoFar}
+use Rattle.daachorse_replacing.specs.Streams.{IsReadReplaced, IsReadReplacedSoFar, IsStreamed, IsStreamedSoFar, ReplacesRead}
 use Rattle.daachorse_replacing.proofs.LeadsOn.{so_far_nothing}
 
 -- what was taken to the end is all that was known
@@ -58,10 +58,10 @@ module _ {R : Type 0} (known : R → Option (List ℕ)) where
   starts_from : {source : Reading R} {reader : R} {left : Option (List ℕ)} → source ≡ to_read reader → known reader ≡ left → known source.reader ≡ left
   starts_from reads same = ap (λ (x : Reading R). known x.reader) reads ∙ same
 
-module _ {V P O F R : Type 0} {bytes : P → List ℕ} {taken : O → Option (List ℕ)} {step : F → Match V → P → MutBor O → Result (Unit {0}) Error → MutBor O → F → Type 0}
-    {found matches : List ℕ → List (Match V)} (known : R → Option (List ℕ)) {source : Reading R} {reader : R} {f : F} {old new : O} {left : Option (List ℕ)}
+module _ {V P O F R : Type 0} (bytes : P → List ℕ) (taken : O → Option (List ℕ)) (step : F → Match V → P → MutBor O → Result (Unit {0}) Error → MutBor O → F → Type 0)
+    {found matches : List ℕ → List (Match V)} (known : R → Option (List ℕ)) {source : Reading R} {reader : R} (f : F) (old new : O) {left : Option (List ℕ)}
     (reads : source ≡ to_read reader) (same : known reader ≡ left) (alike : found ≡ matches) where
-  pub read-bytes : IsStreamed bytes taken step (GivesByte known) (λ (s : Reading R). s.failure) (λ b. b) (λ b. b ∷ []) found source f old new → IsReadReplaced bytes taken step (λ b. ⊤) (λ b. b) left matches f old new
+  read-bytes : IsStreamed bytes taken step (GivesByte known) (λ (s : Reading R). s.failure) (λ b. b) (λ b. b ∷ []) found source f old new → IsReadReplaced bytes taken step (λ b. ⊤) (λ b. b) left matches f old new
   read-bytes h = record {
     units = h.units;
     are = λ k d inside. tt;
@@ -74,7 +74,7 @@ module _ {V P O F R : Type 0} {bytes : P → List ℕ} {taken : O → Option (Li
         subst M alike (subst (λ text. Q text h.units) (bytes_are h.units) (subst (λ units. Q (flat_map (λ b. b ∷ []) h.units) units) (map-id h.units) h.replaced));
   }
 
-  pub read-some_bytes : IsStreamedSoFar bytes taken step (GivesByte known) (λ (s : Reading R). s.failure) (λ b. b) (λ b. b ∷ []) found source f old new → IsReadReplacedSoFar bytes taken step (λ b. ⊤) (λ b. b) left matches f old new
+  read-some_bytes : IsStreamedSoFar bytes taken step (GivesByte known) (λ (s : Reading R). s.failure) (λ b. b) (λ b. b ∷ []) found source f old new → IsReadReplacedSoFar bytes taken step (λ b. ⊤) (λ b. b) left matches f old new
   read-some_bytes h = record {
     units = h.units;
     are = λ k d inside. tt;
@@ -87,7 +87,7 @@ module _ {V P O F R : Type 0} {bytes : P → List ℕ} {taken : O → Option (Li
         subst M alike (subst (λ text. Q text h.units) (bytes_are h.units) (subst (λ units. Q (flat_map (λ b. b ∷ []) h.units) units) (map-id h.units) h.replaced));
   }
 
-  pub read-characters : IsStreamed bytes taken step (GivesCharacter known) (λ (s : Reading R). s.failure) (λ c. c) encode_utf8 found source f old new → IsReadReplaced bytes taken step IsScalar encode_utf8_all left matches f old new
+  read-characters : IsStreamed bytes taken step (GivesCharacter known) (λ (s : Reading R). s.failure) (λ c. c) encode_utf8 found source f old new → IsReadReplaced bytes taken step IsScalar encode_utf8_all left matches f old new
   read-characters h = record {
     units = h.units;
     are = are_scalars known source h.units h.last h.took;
@@ -100,7 +100,7 @@ module _ {V P O F R : Type 0} {bytes : P → List ℕ} {taken : O → Option (Li
         subst M alike (subst (λ text. Q text h.units) (characters_are h.units) (subst (λ units. Q (flat_map encode_utf8 h.units) units) (map-id h.units) h.replaced));
   }
 
-  pub read-some_characters : IsStreamedSoFar bytes taken step (GivesCharacter known) (λ (s : Reading R). s.failure) (λ c. c) encode_utf8 found source f old new
+  read-some_characters : IsStreamedSoFar bytes taken step (GivesCharacter known) (λ (s : Reading R). s.failure) (λ c. c) encode_utf8 found source f old new
       → IsReadReplacedSoFar bytes taken step IsScalar encode_utf8_all left matches f old new
   read-some_characters h = record {
     units = h.units;
@@ -113,6 +113,19 @@ module _ {V P O F R : Type 0} {bytes : P → List ℕ} {taken : O → Option (Li
         let M : (List ℕ → List (Match V)) → Type 0 = λ m. IsReplacedSoFar bytes taken (encode_utf8_all h.units) step (m h.units) f old new in
         subst M alike (subst (λ text. Q text h.units) (characters_are h.units) (subst (λ units. Q (flat_map encode_utf8 h.units) units) (map-id h.units) h.replaced));
   }
+
+  -- whatever came of it
+  pub replaces-bytes : (r : Result (Unit {0}) Error) → OnOk r (IsStreamed bytes taken step (GivesByte known) (λ (s : Reading R). s.failure) (λ b. b) (λ b. b ∷ []) found source f old new)
+      → OnErr r (IsStreamedSoFar bytes taken step (GivesByte known) (λ (s : Reading R). s.failure) (λ b. b) (λ b. b ∷ []) found source f old new)
+      → ReplacesRead bytes taken step (λ b. ⊤) (λ b. b) left matches r f old new
+  replaces-bytes (Ok x) whole beginning = read-bytes whole
+  replaces-bytes (Err e) whole beginning = read-some_bytes beginning
+
+  pub replaces-characters : (r : Result (Unit {0}) Error) → OnOk r (IsStreamed bytes taken step (GivesCharacter known) (λ (s : Reading R). s.failure) (λ c. c) encode_utf8 found source f old new)
+      → OnErr r (IsStreamedSoFar bytes taken step (GivesCharacter known) (λ (s : Reading R). s.failure) (λ c. c) encode_utf8 found source f old new)
+      → ReplacesRead bytes taken step IsScalar encode_utf8_all left matches r f old new
+  replaces-characters (Ok x) whole beginning = read-characters whole
+  replaces-characters (Err e) whole beginning = read-some_characters beginning
 
 -- nothing was read yet
 pub read-nothing : {V P O E F : Type 0} (bytes : P → List ℕ) (taken : O → Option (List ℕ)) (step : F → Match V → P → MutBor O → Result (Unit {0}) E → MutBor O → F → Type 0)

@@ -90,3 +90,8 @@ module _ {V P O E F : Type 0} (bytes : P → List ℕ) (taken : O → Option (Li
       pub are : All is_unit units
       pub begins : IfSome known (λ left. (rest : List ℕ) × (left ≡ spelled units ++ rest))
       pub replaced : IsReplacedSoFar bytes taken (spelled units) step (matches units) f old new
+
+    -- what a reader gives is replaced: all of it, or what came before a refusal
+    abbrev pub ReplacesRead : {T X : Type 0} → Result T X → F → O → O → Type 0
+    ReplacesRead (Ok x) f old new = IsReadReplaced f old new
+    ReplacesRead (Err e) f old new = IsReadReplacedSoFar f old new

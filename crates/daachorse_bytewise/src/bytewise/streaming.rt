@@ -1,14 +1,12 @@
 //! The bytes that a reader gives with their matches replaced.
 
-ghost use Rattle.std.specs.Prelude.{◌≡◌, ◌≢◌, IfErr, IfOk, OnErr, OnOk, ⊤};
+ghost use Rattle.std.specs.Prelude.{◌≡◌, ◌≢◌, IfErr, IfOk, ⊤};
 ghost use Rattle.daachorse_core.specs.Refusals.{IsOutOfMemory};
 ghost use Rattle.daachorse_model.specs.declared.MatchKind.TheVariants.{Standard};
 ghost use Rattle.daachorse_model.specs.Folding.{as_read};
-ghost use Rattle.daachorse_model.specs.Leftmost.{leftmost};
-ghost use Rattle.daachorse_model.specs.Matches.{standard};
 ghost use Rattle.daachorse_model.specs.Units.{byte_width};
 ghost use Rattle.daachorse_replacing.specs.ByKind.{non_overlapping};
-ghost use Rattle.daachorse_replacing.specs.Streams.{HasNoLonger, IsReadReplaced, IsReadReplacedSoFar};
+ghost use Rattle.daachorse_replacing.specs.Streams.{HasNoLonger, ReplacesRead};
 ghost use Rattle.daachorse_bytewise.specs.Automata.{dictionary_of, kind_of};
 
 use super::DoubleArrayAhoCorasick;
@@ -41,10 +39,8 @@ impl<V: Copy, A: Allocator + Copy> DoubleArrayAhoCorasick<V, A> {
         B: Allocator + Copy,
     >(&self, alloc: B, reader: R, out: &mut O, write: F) -> io::Result<()>
         requires callable { F.IsAlwaysCallable write }
-        ensures whole { OnOk result (IsReadReplaced (λ s. s.now) O.contents F.step (λ byte. ⊤) (λ bytes. bytes) (R.remaining reader)
-            (λ bytes. non_overlapping (kind_of self.now) byte_width (dictionary_of self.now) (as_read self.now.folds bytes)) write out.old out.new) }
-        ensures beginning { OnErr result (IsReadReplacedSoFar (λ s. s.now) O.contents F.step (λ byte. ⊤) (λ bytes. bytes) (R.remaining reader)
-            (λ bytes. non_overlapping (kind_of self.now) byte_width (dictionary_of self.now) (as_read self.now.folds bytes)) write out.old out.new) }
+        ensures { ReplacesRead (λ s. s.now) O.contents F.step (λ byte. ⊤) (λ bytes. bytes) (R.remaining reader)
+            (λ bytes. non_overlapping (kind_of self.now) byte_width (dictionary_of self.now) (as_read self.now.folds bytes)) result write out.old out.new }
     {
         match self.match_kind() {
             MatchKind::Standard => self.replace_standard(alloc, reader, out, write),
@@ -63,10 +59,8 @@ impl<V: Copy, A: Allocator + Copy> DoubleArrayAhoCorasick<V, A> {
     >(&self, alloc: B, reader: R, out: &mut O, write: F) -> io::Result<()>
         requires kind { kind_of self.now ≡ Standard }
         requires callable { F.IsAlwaysCallable write }
-        ensures whole { OnOk result (IsReadReplaced (λ s. s.now) O.contents F.step (λ byte. ⊤) (λ bytes. bytes) (R.remaining reader)
-            (λ bytes. standard byte_width (dictionary_of self.now) (as_read self.now.folds bytes)) write out.old out.new) }
-        ensures beginning { OnErr result (IsReadReplacedSoFar (λ s. s.now) O.contents F.step (λ byte. ⊤) (λ bytes. bytes) (R.remaining reader)
-            (λ bytes. standard byte_width (dictionary_of self.now) (as_read self.now.folds bytes)) write out.old out.new) }
+        ensures { ReplacesRead (λ s. s.now) O.contents F.step (λ byte. ⊤) (λ bytes. bytes) (R.remaining reader)
+            (λ bytes. non_overlapping (kind_of self.now) byte_width (dictionary_of self.now) (as_read self.now.folds bytes)) result write out.old out.new }
     {
         let longest = self.longest_pattern()?;
         let source = ReadBytes::new(in_blocks(alloc, reader)?);
@@ -90,10 +84,8 @@ impl<V: Copy, A: Allocator + Copy> DoubleArrayAhoCorasick<V, A> {
     >(&self, alloc: B, reader: R, out: &mut O, write: F) -> io::Result<()>
         requires kind { kind_of self.now ≢ Standard }
         requires callable { F.IsAlwaysCallable write }
-        ensures whole { OnOk result (IsReadReplaced (λ s. s.now) O.contents F.step (λ byte. ⊤) (λ bytes. bytes) (R.remaining reader)
-            (λ bytes. leftmost byte_width (dictionary_of self.now) (as_read self.now.folds bytes)) write out.old out.new) }
-        ensures beginning { OnErr result (IsReadReplacedSoFar (λ s. s.now) O.contents F.step (λ byte. ⊤) (λ bytes. bytes) (R.remaining reader)
-            (λ bytes. leftmost byte_width (dictionary_of self.now) (as_read self.now.folds bytes)) write out.old out.new) }
+        ensures { ReplacesRead (λ s. s.now) O.contents F.step (λ byte. ⊤) (λ bytes. bytes) (R.remaining reader)
+            (λ bytes. non_overlapping (kind_of self.now) byte_width (dictionary_of self.now) (as_read self.now.folds bytes)) result write out.old out.new }
     {
         let marks = self.stream_marks(*self.depths.allocator())?;
         let source = ReadBytes::new(in_blocks(alloc, reader)?);
@@ -106,12 +98,7 @@ impl<V: Copy, A: Allocator + Copy> DoubleArrayAhoCorasick<V, A> {
         ensures ok { IfOk result (HasNoLonger byte_width (dictionary_of self.now)) }
         ensures err { IfErr result IsOutOfMemory }
     {
-        let mut longest = 0;
-        for item in self.iter(*self.depths.allocator())? {
-            let (pattern, _value) = item?;
-            longest = longest.max(pattern.len());
-        }
-        Ok(longest)
+        self.max_pattern_len(*self.depths.allocator())
     }
 }
 
@@ -125,10 +112,8 @@ impl<V: Copy, A: Allocator + Copy> Accelerated<V, A> {
         B: Allocator + Copy,
     >(&self, alloc: B, reader: R, out: &mut O, write: F) -> io::Result<()>
         requires callable { F.IsAlwaysCallable write }
-        ensures whole { OnOk result (IsReadReplaced (λ s. s.now) O.contents F.step (λ byte. ⊤) (λ bytes. bytes) (R.remaining reader)
-            (λ bytes. non_overlapping (kind_of self.now.automaton) byte_width (dictionary_of self.now.automaton) (as_read self.now.automaton.folds bytes)) write out.old out.new) }
-        ensures beginning { OnErr result (IsReadReplacedSoFar (λ s. s.now) O.contents F.step (λ byte. ⊤) (λ bytes. bytes) (R.remaining reader)
-            (λ bytes. non_overlapping (kind_of self.now.automaton) byte_width (dictionary_of self.now.automaton) (as_read self.now.automaton.folds bytes)) write out.old out.new) }
+        ensures { ReplacesRead (λ s. s.now) O.contents F.step (λ byte. ⊤) (λ bytes. bytes) (R.remaining reader)
+            (λ bytes. non_overlapping (kind_of self.now.automaton) byte_width (dictionary_of self.now.automaton) (as_read self.now.automaton.folds bytes)) result write out.old out.new }
     {
         match self.match_kind() {
             MatchKind::Standard => self.replace_standard(alloc, reader, out, write),
@@ -148,10 +133,8 @@ impl<V: Copy, A: Allocator + Copy> Accelerated<V, A> {
     >(&self, alloc: B, reader: R, out: &mut O, write: F) -> io::Result<()>
         requires kind { kind_of self.now.automaton ≡ Standard }
         requires callable { F.IsAlwaysCallable write }
-        ensures whole { OnOk result (IsReadReplaced (λ s. s.now) O.contents F.step (λ byte. ⊤) (λ bytes. bytes) (R.remaining reader)
-            (λ bytes. standard byte_width (dictionary_of self.now.automaton) (as_read self.now.automaton.folds bytes)) write out.old out.new) }
-        ensures beginning { OnErr result (IsReadReplacedSoFar (λ s. s.now) O.contents F.step (λ byte. ⊤) (λ bytes. bytes) (R.remaining reader)
-            (λ bytes. standard byte_width (dictionary_of self.now.automaton) (as_read self.now.automaton.folds bytes)) write out.old out.new) }
+        ensures { ReplacesRead (λ s. s.now) O.contents F.step (λ byte. ⊤) (λ bytes. bytes) (R.remaining reader)
+            (λ bytes. non_overlapping (kind_of self.now.automaton) byte_width (dictionary_of self.now.automaton) (as_read self.now.automaton.folds bytes)) result write out.old out.new }
     {
         let longest = self.automaton().longest_pattern()?;
         let source = ReadBytes::new(in_blocks(alloc, reader)?);

@@ -1,15 +1,13 @@
 //! The text that a reader gives with its matches replaced.
 
-ghost use Rattle.std.specs.Prelude.{◌≡◌, ◌≢◌, IfErr, IfOk, OnErr, OnOk, encode_utf8_all};
+ghost use Rattle.std.specs.Prelude.{◌≡◌, ◌≢◌, IfErr, IfOk, encode_utf8_all};
 ghost use Rattle.std.specs.Char.{IsScalar};
 ghost use Rattle.daachorse_core.specs.Refusals.{IsOutOfMemory};
 ghost use Rattle.daachorse_model.specs.declared.MatchKind.TheVariants.{Standard};
 ghost use Rattle.daachorse_model.specs.Folding.{as_read};
-ghost use Rattle.daachorse_model.specs.Leftmost.{leftmost};
-ghost use Rattle.daachorse_model.specs.Matches.{standard};
 ghost use Rattle.daachorse_model.specs.Units.{char_width};
 ghost use Rattle.daachorse_replacing.specs.ByKind.{non_overlapping};
-ghost use Rattle.daachorse_replacing.specs.Streams.{HasNoLonger, IsReadReplaced, IsReadReplacedSoFar};
+ghost use Rattle.daachorse_replacing.specs.Streams.{HasNoLonger, ReplacesRead};
 ghost use Rattle.daachorse_charwise.specs.Automata.{dictionary_of, kind_of};
 
 use super::CharwiseDoubleArrayAhoCorasick;
@@ -45,10 +43,8 @@ impl<V: Copy, A: Allocator + Copy> CharwiseDoubleArrayAhoCorasick<V, A> {
         B: Allocator + Copy,
     >(&self, alloc: B, reader: R, out: &mut O, write: F) -> io::Result<()>
         requires callable { F.IsAlwaysCallable write }
-        ensures whole { OnOk result (IsReadReplaced (λ s. s.now) O.contents F.step IsScalar encode_utf8_all (R.remaining reader)
-            (λ characters. non_overlapping (kind_of self.now) char_width (dictionary_of self.now) (as_read self.now.folds characters)) write out.old out.new) }
-        ensures beginning { OnErr result (IsReadReplacedSoFar (λ s. s.now) O.contents F.step IsScalar encode_utf8_all (R.remaining reader)
-            (λ characters. non_overlapping (kind_of self.now) char_width (dictionary_of self.now) (as_read self.now.folds characters)) write out.old out.new) }
+        ensures { ReplacesRead (λ s. s.now) O.contents F.step IsScalar encode_utf8_all (R.remaining reader)
+            (λ characters. non_overlapping (kind_of self.now) char_width (dictionary_of self.now) (as_read self.now.folds characters)) result write out.old out.new }
     {
         match self.match_kind() {
             MatchKind::Standard => self.replace_standard(alloc, reader, out, write),
@@ -67,10 +63,8 @@ impl<V: Copy, A: Allocator + Copy> CharwiseDoubleArrayAhoCorasick<V, A> {
     >(&self, alloc: B, reader: R, out: &mut O, write: F) -> io::Result<()>
         requires kind { kind_of self.now ≡ Standard }
         requires callable { F.IsAlwaysCallable write }
-        ensures whole { OnOk result (IsReadReplaced (λ s. s.now) O.contents F.step IsScalar encode_utf8_all (R.remaining reader)
-            (λ characters. standard char_width (dictionary_of self.now) (as_read self.now.folds characters)) write out.old out.new) }
-        ensures beginning { OnErr result (IsReadReplacedSoFar (λ s. s.now) O.contents F.step IsScalar encode_utf8_all (R.remaining reader)
-            (λ characters. standard char_width (dictionary_of self.now) (as_read self.now.folds characters)) write out.old out.new) }
+        ensures { ReplacesRead (λ s. s.now) O.contents F.step IsScalar encode_utf8_all (R.remaining reader)
+            (λ characters. non_overlapping (kind_of self.now) char_width (dictionary_of self.now) (as_read self.now.folds characters)) result write out.old out.new }
     {
         let longest = self.longest_pattern()?;
         let source = ReadChars::new(in_blocks(alloc, reader)?);
@@ -94,10 +88,8 @@ impl<V: Copy, A: Allocator + Copy> CharwiseDoubleArrayAhoCorasick<V, A> {
     >(&self, alloc: B, reader: R, out: &mut O, write: F) -> io::Result<()>
         requires kind { kind_of self.now ≢ Standard }
         requires callable { F.IsAlwaysCallable write }
-        ensures whole { OnOk result (IsReadReplaced (λ s. s.now) O.contents F.step IsScalar encode_utf8_all (R.remaining reader)
-            (λ characters. leftmost char_width (dictionary_of self.now) (as_read self.now.folds characters)) write out.old out.new) }
-        ensures beginning { OnErr result (IsReadReplacedSoFar (λ s. s.now) O.contents F.step IsScalar encode_utf8_all (R.remaining reader)
-            (λ characters. leftmost char_width (dictionary_of self.now) (as_read self.now.folds characters)) write out.old out.new) }
+        ensures { ReplacesRead (λ s. s.now) O.contents F.step IsScalar encode_utf8_all (R.remaining reader)
+            (λ characters. non_overlapping (kind_of self.now) char_width (dictionary_of self.now) (as_read self.now.folds characters)) result write out.old out.new }
     {
         let marks = self.stream_marks(*self.depths.allocator())?;
         let source = ReadChars::new(in_blocks(alloc, reader)?);
@@ -129,10 +121,8 @@ impl<V: Copy, A: Allocator + Copy> Accelerated<V, A> {
         B: Allocator + Copy,
     >(&self, alloc: B, reader: R, out: &mut O, write: F) -> io::Result<()>
         requires callable { F.IsAlwaysCallable write }
-        ensures whole { OnOk result (IsReadReplaced (λ s. s.now) O.contents F.step IsScalar encode_utf8_all (R.remaining reader)
-            (λ characters. non_overlapping (kind_of self.now.automaton) char_width (dictionary_of self.now.automaton) (as_read self.now.automaton.folds characters)) write out.old out.new) }
-        ensures beginning { OnErr result (IsReadReplacedSoFar (λ s. s.now) O.contents F.step IsScalar encode_utf8_all (R.remaining reader)
-            (λ characters. non_overlapping (kind_of self.now.automaton) char_width (dictionary_of self.now.automaton) (as_read self.now.automaton.folds characters)) write out.old out.new) }
+        ensures { ReplacesRead (λ s. s.now) O.contents F.step IsScalar encode_utf8_all (R.remaining reader)
+            (λ characters. non_overlapping (kind_of self.now.automaton) char_width (dictionary_of self.now.automaton) (as_read self.now.automaton.folds characters)) result write out.old out.new }
     {
         match self.match_kind() {
             MatchKind::Standard => self.replace_standard(alloc, reader, out, write),
@@ -152,10 +142,8 @@ impl<V: Copy, A: Allocator + Copy> Accelerated<V, A> {
     >(&self, alloc: B, reader: R, out: &mut O, write: F) -> io::Result<()>
         requires kind { kind_of self.now.automaton ≡ Standard }
         requires callable { F.IsAlwaysCallable write }
-        ensures whole { OnOk result (IsReadReplaced (λ s. s.now) O.contents F.step IsScalar encode_utf8_all (R.remaining reader)
-            (λ characters. standard char_width (dictionary_of self.now.automaton) (as_read self.now.automaton.folds characters)) write out.old out.new) }
-        ensures beginning { OnErr result (IsReadReplacedSoFar (λ s. s.now) O.contents F.step IsScalar encode_utf8_all (R.remaining reader)
-            (λ characters. standard char_width (dictionary_of self.now.automaton) (as_read self.now.automaton.folds characters)) write out.old out.new) }
+        ensures { ReplacesRead (λ s. s.now) O.contents F.step IsScalar encode_utf8_all (R.remaining reader)
+            (λ characters. non_overlapping (kind_of self.now.automaton) char_width (dictionary_of self.now.automaton) (as_read self.now.automaton.folds characters)) result write out.old out.new }
     {
         let longest = self.automaton().longest_pattern()?;
         let source = ReadChars::new(in_blocks(alloc, reader)?);

@@ -158,7 +158,7 @@ static void see_nulls(void) {
     need(daachorse_get(&handle, NULL, 0, found, 1, &count) == DAACHORSE_DONE && count == 0, "get", 0);
     need(daachorse_is_match(&handle, NULL, 0, &is_found) == DAACHORSE_DONE && !is_found, "is_match", 0);
     need(daachorse_replace(&handle, NULL, 0, NULL, 0, NULL, 0, NULL, 0, &size) == DAACHORSE_DONE && size == 0, "replace", 0);
-    need(daachorse_begin(&handle, true) == DAACHORSE_DONE, "begin", 0);
+    need(daachorse_begin(&handle, DAACHORSE_OVERLAPPING) == DAACHORSE_DONE, "begin", 0);
     need(daachorse_consume(&handle, NULL, 0, NULL, 0, &size, &count) == DAACHORSE_DONE && size == 0 && count == 0, "consume", 0);
     need(daachorse_list(&handle, NULL, 0, NULL, 0, NULL, 0, &size, &count) == DAACHORSE_DONE && size == 0 && count == 0, "list", 0);
     need(daachorse_write(&handle, NULL, 0, &size) == DAACHORSE_NO_ROOM && size > 0, "write", 0);
@@ -260,13 +260,59 @@ static void see_no_replacements(void) {
     daachorse_free(&handle);
 }
 
+/* Feeds bytes to a stream that has reported so many matches, and returns how many it has then. */
+static size_t feed(daachorse *handle, const char *text, size_t size, daachorse_match *found, size_t told, size_t row) {
+    size_t taken, written;
+    need(daachorse_consume(handle, bytes_of(text), size, found + told, ROOM - told, &taken, &written) == DAACHORSE_DONE, "consume", row);
+    need(taken == size, "the bytes consumed", row);
+    return told + written;
+}
+
+/* Where a leftmost stream of secret and secretary is cut after each number of bytes: it has reported
+ * each match that ends at ends as soon as it has consumed as many bytes as after says, or else after
+ * its end. */
+static void see_certain(void) {
+    static const struct {
+        uint32_t kind;
+        const char *text;
+        size_t count, ends[2], after[2];
+    } rows[] = {
+        {DAACHORSE_LEFTMOST_LONGEST, "a secret", 1, {8}, {9}},
+        {DAACHORSE_LEFTMOST_LONGEST, "secrets", 1, {6}, {7}},
+        {DAACHORSE_LEFTMOST_LONGEST, "secretarsecretary", 2, {6, 17}, {9, 17}},
+        {DAACHORSE_LEFTMOST_FIRST, "secretary", 1, {6}, {6}},
+        {DAACHORSE_LEFTMOST_FIRST, "secretsecret", 2, {6, 12}, {6, 12}},
+    };
+    const size_t ends[] = {6, 15};
+    const uint32_t values[] = {0, 1};
+    for (size_t i = 0; i < sizeof rows / sizeof *rows; i++)
+        for (size_t cut = 0, len = strlen(rows[i].text); cut <= len; cut++) {
+            daachorse handle = DAACHORSE_EMPTY;
+            daachorse_match found[ROOM];
+            size_t wanted = 0;
+            need(daachorse_build(&handle, rows[i].kind, true, false, bytes_of("secretsecretary"), 15, ends, 2, values, 2) == DAACHORSE_DONE,
+                "build", i);
+            need(daachorse_begin(&handle, DAACHORSE_LEFTMOST) == DAACHORSE_DONE, "begin", i);
+            size_t told = feed(&handle, rows[i].text, cut, found, 0, i);
+            while (wanted < rows[i].count && rows[i].after[wanted] <= cut)
+                wanted++;
+            need(told == wanted, "what is certain before a cut", i);
+            told = feed(&handle, rows[i].text + cut, len - cut, found, told, i);
+            need(daachorse_end(&handle) == DAACHORSE_DONE, "end", i);
+            need(feed(&handle, "", 0, found, told, i) == rows[i].count, "what is left at the end", i);
+            for (size_t j = 0; j < rows[i].count; j++)
+                need(found[j].end == rows[i].ends[j], "a match of a leftmost stream", i);
+            daachorse_free(&handle);
+        }
+}
+
 /* A handle may be moved, also with a stream. */
 static void see_moves(void) {
     daachorse first = DAACHORSE_EMPTY, second;
     daachorse_match found[4];
     size_t taken, written;
     build(&first, (daachorse_options){0});
-    need(daachorse_begin(&first, true) == DAACHORSE_DONE, "begin", 0);
+    need(daachorse_begin(&first, DAACHORSE_OVERLAPPING) == DAACHORSE_DONE, "begin", 0);
     need(daachorse_consume(&first, bytes_of("a"), 1, found, 4, &taken, &written) == DAACHORSE_DONE && written == 0, "consume", 0);
     second = first;
     need(daachorse_consume(&second, bytes_of("b"), 1, found, 4, &taken, &written) == DAACHORSE_DONE && written == 2, "consume", 1);
@@ -283,6 +329,7 @@ int main(void) {
     see_places();
     see_replacements();
     see_no_replacements();
+    see_certain();
     see_moves();
     return 0;
 }

@@ -59,6 +59,14 @@ enum daachorse_kind {
     DAACHORSE_LEFTMOST_FIRST = 2    /* daachorse_leftmost_find: the earliest pattern at a start */
 };
 
+/* The searches of streams. */
+enum daachorse_search {
+    DAACHORSE_FIND = 0,        /* the matches of daachorse_find */
+    DAACHORSE_OVERLAPPING = 1, /* those of daachorse_find_overlapping */
+    DAACHORSE_NO_SUFFIX = 2,   /* those of daachorse_find_overlapping_no_suffix */
+    DAACHORSE_LEFTMOST = 3     /* those of daachorse_leftmost_find */
+};
+
 /* What the calls return. */
 enum daachorse_answer {
     DAACHORSE_DONE = 0,
@@ -76,7 +84,9 @@ enum daachorse_answer {
     DAACHORSE_NO_STREAM = 12,        /* no stream was begun */
     DAACHORSE_STREAM_TOO_LONG = 13,  /* an offset or the number of matches would pass size_t */
     DAACHORSE_UNKNOWN_OPTION = 14,   /* an option is neither 0 nor 1, or a spare one is not 0 */
-    DAACHORSE_WRONG_PLACE = 15       /* a search would go on behind the haystack */
+    DAACHORSE_WRONG_PLACE = 15,      /* a search would go on behind the haystack */
+    DAACHORSE_UNKNOWN_SEARCH = 16,   /* no search of a stream has this number */
+    DAACHORSE_STREAM_ENDED = 17      /* bytes come after the end of the stream */
 };
 
 /* The options of a build. One that is all 0 asks for the standard kind, with a prefilter, and
@@ -122,6 +132,8 @@ static inline const char *daachorse_answer_text(uint32_t answer) {
     case DAACHORSE_STREAM_TOO_LONG: return "an offset or the number of matches would pass 64 bits";
     case DAACHORSE_UNKNOWN_OPTION: return "an option is neither 0 nor 1, or a spare one is not 0";
     case DAACHORSE_WRONG_PLACE: return "a search would go on behind the haystack";
+    case DAACHORSE_UNKNOWN_SEARCH: return "no search of a stream has this number";
+    case DAACHORSE_STREAM_ENDED: return "bytes come after the end of the stream";
     default: return "no answer of this library";
     }
 }
@@ -210,7 +222,7 @@ uint32_t daachorse_leftmost_find(daachorse *handle, const uint8_t *haystack, siz
  * match was reported; else call again. The calls together read what one search of the whole reads,
  * and take a few steps more for each match, whatever out_len is. They allocate nothing. Returns
  * DAACHORSE_DONE or, with place and out unchanged and 0 in written, DAACHORSE_EMPTY_HANDLE, or
- * DAACHORSE_WRONG_PLACE if the place is behind the haystack. Overlapping matches go on by a stream
+ * DAACHORSE_WRONG_PLACE if the place is behind the haystack. The other searches go on by a stream
  * (daachorse_begin). */
 uint32_t daachorse_find_on(daachorse *handle, const uint8_t *haystack, size_t haystack_len, daachorse_place *place,
         daachorse_match *out, size_t out_len, size_t *written);
@@ -245,17 +257,19 @@ uint32_t daachorse_replace(daachorse *handle, const uint8_t *haystack, size_t ha
  * daachorse_free end and the searches leave as it is: for more streams at once share the automaton
  * with a handle each. Pieces need not be kept after the call. */
 
-/* Begins a stream, for the matches of daachorse_find_overlapping if overlapping is true, else
- * for those of daachorse_find, and ends a previous one. It allocates nothing. Returns
- * DAACHORSE_DONE or, with the handle unchanged, DAACHORSE_EMPTY_HANDLE, or DAACHORSE_WRONG_KIND
- * if the automaton is not standard. */
-uint32_t daachorse_begin(daachorse *handle, bool overlapping);
+/* Begins a stream for the matches of a search, an enum daachorse_search, and drops a previous one.
+ * It allocates nothing, but for DAACHORSE_LEFTMOST a byte for each element of the automaton and one
+ * for each byte of the longest pattern, and memory for a walk over the patterns, as daachorse_list
+ * takes, which is freed before the call returns. Returns DAACHORSE_DONE or, with the handle
+ * unchanged, DAACHORSE_EMPTY_HANDLE, DAACHORSE_UNKNOWN_SEARCH, DAACHORSE_OUT_OF_MEMORY, or
+ * DAACHORSE_WRONG_KIND if the search does not serve the automaton. */
+uint32_t daachorse_begin(daachorse *handle, uint32_t search);
 
 /* Fills other with the automaton of the handle, as daachorse_share does, and begins a stream there.
  * If it is refused, other is unchanged or empty. */
-static inline uint32_t daachorse_stream(daachorse *handle, bool overlapping, daachorse *other) {
+static inline uint32_t daachorse_stream(daachorse *handle, uint32_t search, daachorse *other) {
     uint32_t answer = daachorse_share(handle, other);
-    if (answer == DAACHORSE_DONE && (answer = daachorse_begin(other, overlapping)) != DAACHORSE_DONE)
+    if (answer == DAACHORSE_DONE && (answer = daachorse_begin(other, search)) != DAACHORSE_DONE)
         daachorse_free(other);
     return answer;
 }
@@ -263,12 +277,23 @@ static inline uint32_t daachorse_stream(daachorse *handle, bool overlapping, daa
 /* Feeds bytes to the stream, as few as one, and writes its next matches to out, the number of bytes
  * consumed to taken, and that of matches to written. If written is less than out_len, all bytes
  * were consumed and every match so far was reported. If it is out_len, call again with the bytes
- * after the first taken, even if there are none: no match is lost. It allocates nothing, and the
- * calls take time linear in the bytes and the matches, whatever out_len is. Returns DAACHORSE_DONE
- * or, with the stream and out unchanged and 0 in taken and written, DAACHORSE_EMPTY_HANDLE,
- * DAACHORSE_NO_STREAM or DAACHORSE_STREAM_TOO_LONG. */
+ * after the first taken, even if there are none: no match is lost.
+ *
+ * A match of DAACHORSE_LEFTMOST is reported as soon as it is certain: as soon as no byte that
+ * follows can change it. So some are reported only after the end (daachorse_end).
+ *
+ * The call allocates nothing. The calls take time linear in the bytes and the matches, whatever
+ * out_len is, but for DAACHORSE_LEFTMOST at most the length of the longest pattern more for each
+ * match and each call. Returns DAACHORSE_DONE or, with the stream and out unchanged and 0 in taken
+ * and written, DAACHORSE_EMPTY_HANDLE, DAACHORSE_NO_STREAM, DAACHORSE_STREAM_TOO_LONG, or
+ * DAACHORSE_STREAM_ENDED if bytes come after the end. */
 uint32_t daachorse_consume(daachorse *handle, const uint8_t *bytes, size_t bytes_len, daachorse_match *out,
         size_t out_len, size_t *taken, size_t *written);
+
+/* Ends the stream: no more bytes come. daachorse_consume with no bytes then reports the matches that
+ * were left, all of them if it writes less than out_len. Returns DAACHORSE_DONE or, with the handle
+ * unchanged, DAACHORSE_EMPTY_HANDLE or DAACHORSE_NO_STREAM. */
+uint32_t daachorse_end(daachorse *handle);
 
 /* Writes the automaton to the front of out, and its length to size. daachorse_read reads it back,
  * with its kind and whether it ignores ASCII case. Returns DAACHORSE_DONE or, with out unchanged,
@@ -457,14 +482,14 @@ static inline uint32_t daachorse_find_each(daachorse *handle, const uint8_t *hay
     return answer;
 }
 
-/* daachorse_find_overlapping, by a stream of its own: a few words are allocated, and freed. Returns
- * what daachorse_stream and daachorse_consume do. */
-static inline uint32_t daachorse_find_overlapping_each(daachorse *handle, const uint8_t *haystack, size_t haystack_len,
-        daachorse_each *each, void *context) {
+/* The matches of a search of streams, by a stream of its own: a few words are allocated, and freed.
+ * Returns what daachorse_stream and daachorse_consume do. */
+static inline uint32_t daachorse_stream_each(daachorse *handle, uint32_t search, const uint8_t *haystack,
+        size_t haystack_len, daachorse_each *each, void *context) {
     daachorse stream = DAACHORSE_EMPTY;
     daachorse_match found[DAACHORSE_EACH_ROOM];
     size_t at = 0, taken, written = DAACHORSE_EACH_ROOM;
-    uint32_t answer = daachorse_stream(handle, true, &stream);
+    uint32_t answer = daachorse_stream(handle, search, &stream);
     while (answer == DAACHORSE_DONE && written == DAACHORSE_EACH_ROOM) {
         const uint8_t *rest = haystack != NULL ? haystack + at : NULL;
         answer = daachorse_consume(&stream, rest, haystack_len - at, found, DAACHORSE_EACH_ROOM, &taken, &written);
@@ -474,6 +499,17 @@ static inline uint32_t daachorse_find_overlapping_each(daachorse *handle, const 
     }
     daachorse_free(&stream);
     return answer;
+}
+
+/* daachorse_find_overlapping and daachorse_find_overlapping_no_suffix, as daachorse_stream_each. */
+static inline uint32_t daachorse_find_overlapping_each(daachorse *handle, const uint8_t *haystack, size_t haystack_len,
+        daachorse_each *each, void *context) {
+    return daachorse_stream_each(handle, DAACHORSE_OVERLAPPING, haystack, haystack_len, each, context);
+}
+
+static inline uint32_t daachorse_find_overlapping_no_suffix_each(daachorse *handle, const uint8_t *haystack,
+        size_t haystack_len, daachorse_each *each, void *context) {
+    return daachorse_stream_each(handle, DAACHORSE_NO_SUFFIX, haystack, haystack_len, each, context);
 }
 
 #ifdef __cplusplus

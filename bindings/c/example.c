@@ -103,14 +103,18 @@ static void see_room(void) {
     daachorse_free(&handle);
 }
 
-/* A stream reports each match once, even across pieces, whatever the room. */
-static void show_stream(bool overlapping) {
-    const char *pieces[] = {"", "a", "bcda", "b"};
+/* A stream reports each match once, even across pieces, whatever the room. It ends before the last
+ * piece, which has no bytes. */
+static void show_stream(const char *name, uint32_t kind, uint32_t search) {
+    const char *pieces[] = {"", "a", "bcda", "b", ""};
+    const size_t count = sizeof pieces / sizeof *pieces;
     daachorse handle = DAACHORSE_EMPTY;
-    build(&handle, DAACHORSE_STANDARD, true);
-    need(daachorse_begin(&handle, overlapping) == DAACHORSE_DONE, "begin");
-    printf(overlapping ? "stream, overlapping:" : "stream:");
-    for (size_t i = 0; i < sizeof pieces / sizeof *pieces; i++) {
+    build(&handle, kind, true);
+    need(daachorse_begin(&handle, search) == DAACHORSE_DONE, "begin");
+    printf("%s:", name);
+    for (size_t i = 0; i < count; i++) {
+        if (i == count - 1)
+            need(daachorse_end(&handle) == DAACHORSE_DONE, "end");
         const uint8_t *bytes = (const uint8_t *)pieces[i];
         size_t left = strlen(pieces[i]), taken = 0, written = 0;
         do {
@@ -132,17 +136,26 @@ static void see_stream_refusals(void) {
     daachorse handle = DAACHORSE_EMPTY;
     daachorse_match found[1] = {{7, 7, 7}};
     size_t taken = 7, written = 7;
-    need(daachorse_begin(&handle, true) == DAACHORSE_EMPTY_HANDLE, "begin with an empty handle");
+    need(daachorse_begin(&handle, DAACHORSE_OVERLAPPING) == DAACHORSE_EMPTY_HANDLE, "begin with an empty handle");
     need(daachorse_consume(&handle, bytes, 2, found, 1, &taken, &written) == DAACHORSE_EMPTY_HANDLE, "consume with an empty handle");
+    need(daachorse_end(&handle) == DAACHORSE_EMPTY_HANDLE, "end with an empty handle");
     need(taken == 0 && written == 0, "nothing consumed");
     build(&handle, DAACHORSE_LEFTMOST_FIRST, true);
-    need(daachorse_begin(&handle, true) == DAACHORSE_WRONG_KIND, "stream of another kind");
+    for (uint32_t search = DAACHORSE_FIND; search <= DAACHORSE_NO_SUFFIX; search++)
+        need(daachorse_begin(&handle, search) == DAACHORSE_WRONG_KIND, "stream of another kind");
     build(&handle, DAACHORSE_STANDARD, true);
+    need(daachorse_begin(&handle, DAACHORSE_LEFTMOST) == DAACHORSE_WRONG_KIND, "leftmost stream of another kind");
+    need(daachorse_begin(&handle, 4) == DAACHORSE_UNKNOWN_SEARCH, "stream of no search");
     need(daachorse_consume(&handle, bytes, 2, found, 1, &taken, &written) == DAACHORSE_NO_STREAM, "no stream");
     need(taken == 0 && written == 0 && found[0].value == 7, "nothing told");
-    need(daachorse_begin(&handle, false) == DAACHORSE_DONE, "begin");
+    need(daachorse_end(&handle) == DAACHORSE_NO_STREAM, "no stream to end");
+    need(daachorse_begin(&handle, DAACHORSE_FIND) == DAACHORSE_DONE, "begin");
     need(daachorse_consume(&handle, bytes, 2, found, 1, &taken, &written) == DAACHORSE_DONE, "consume");
     need(taken == 2 && written == 1 && found[0].end == 2, "the first match");
+    need(daachorse_end(&handle) == DAACHORSE_DONE && daachorse_end(&handle) == DAACHORSE_DONE, "end");
+    need(daachorse_consume(&handle, bytes, 1, found, 1, &taken, &written) == DAACHORSE_STREAM_ENDED, "bytes after the end");
+    need(taken == 0 && written == 0, "nothing consumed after the end");
+    need(daachorse_consume(&handle, bytes, 0, found, 1, &taken, &written) == DAACHORSE_DONE && written == 0, "nothing is left");
     build(&handle, DAACHORSE_STANDARD, true);
     need(daachorse_consume(&handle, bytes, 2, found, 1, &taken, &written) == DAACHORSE_NO_STREAM, "a stream of another automaton");
     daachorse_free(&handle);
@@ -199,8 +212,11 @@ int main(void) {
     show_patterns("patterns, leftmost first", DAACHORSE_LEFTMOST_FIRST);
     see_room();
     see_written();
-    show_stream(false);
-    show_stream(true);
+    show_stream("stream", DAACHORSE_STANDARD, DAACHORSE_FIND);
+    show_stream("stream, overlapping", DAACHORSE_STANDARD, DAACHORSE_OVERLAPPING);
+    show_stream("stream, no suffix", DAACHORSE_STANDARD, DAACHORSE_NO_SUFFIX);
+    show_stream("stream, longest", DAACHORSE_LEFTMOST_LONGEST, DAACHORSE_LEFTMOST);
+    show_stream("stream, first", DAACHORSE_LEFTMOST_FIRST, DAACHORSE_LEFTMOST);
     see_refusals();
     see_stream_refusals();
     return 0;

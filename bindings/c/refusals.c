@@ -48,6 +48,10 @@ static uint32_t build_for_any_case(daachorse *handle) {
     return daachorse_build(handle, DAACHORSE_STANDARD, true, true, bytes, 10, ends, 4, values, 4);
 }
 
+static uint32_t begin_leftmost(daachorse *handle) {
+    return daachorse_begin(handle, DAACHORSE_LEFTMOST);
+}
+
 static uint32_t write_form(daachorse *handle) {
     return daachorse_write(handle, form, sizeof form, &form_len);
 }
@@ -116,6 +120,9 @@ int main(void) {
     refuse_each("accelerate", accelerate, &again);
     daachorse_free(&full);
     need(daachorse_is_match(&again, (const uint8_t *)"xCdx", 4, &found) == DAACHORSE_DONE && found, "one with rows");
+    need(daachorse_build(&full, DAACHORSE_LEFTMOST_LONGEST, true, false, bytes, 10, ends, 4, values, 4) == DAACHORSE_DONE, "build");
+    refuse_each("begin", begin_leftmost, &full);
+    daachorse_free(&full);
     refuse_each("read", read_form, &again);
     need(daachorse_is_match(&again, (const uint8_t *)"xCdx", 4, &found) == DAACHORSE_DONE && found, "is_match");
     daachorse_free(&handle);

@@ -19,15 +19,21 @@ typedef struct {
 } pattern_list;
 
 typedef uint32_t search_fn(daachorse *, const uint8_t *, size_t, daachorse_match *, size_t, size_t *);
+typedef uint32_t each_fn(daachorse *, const uint8_t *, size_t, daachorse_each *, void *);
 
-static const struct {
+/* A search: of a whole haystack, that passes each match on, and of a stream. */
+typedef struct {
     const char *name;
     search_fn *search;
-} searches[] = {
-    {"find", daachorse_find},
-    {"find_overlapping", daachorse_find_overlapping},
-    {"find_overlapping_no_suffix", daachorse_find_overlapping_no_suffix},
-    {"leftmost_find", daachorse_leftmost_find},
+    each_fn *each;
+    uint32_t number;
+} search_calls;
+
+static const search_calls searches[] = {
+    {"find", daachorse_find, daachorse_find_each, DAACHORSE_FIND},
+    {"find_overlapping", daachorse_find_overlapping, daachorse_find_overlapping_each, DAACHORSE_OVERLAPPING},
+    {"find_overlapping_no_suffix", daachorse_find_overlapping_no_suffix, daachorse_find_overlapping_no_suffix_each, DAACHORSE_NO_SUFFIX},
+    {"leftmost_find", daachorse_leftmost_find, daachorse_find_each, DAACHORSE_LEFTMOST},
 };
 
 static void need(bool holds, const char *what, size_t row) {
@@ -46,10 +52,10 @@ static size_t append(uint8_t *bytes, size_t len, const char *text, size_t text_l
     return len;
 }
 
-static search_fn *search_named(const char *name) {
+static const search_calls *search_named(const char *name) {
     for (size_t i = 0; i < sizeof searches / sizeof *searches; i++)
         if (strcmp(searches[i].name, name) == 0)
-            return searches[i].search;
+            return &searches[i];
     return NULL;
 }
 
@@ -57,12 +63,14 @@ static bool is_same(daachorse_match found, daachorse_match wanted) {
     return found.start == wanted.start && found.end == wanted.end && found.value == wanted.value;
 }
 
-/* Feeds the haystack to a stream in pieces of this size, and compares the matches it reports. */
-static void see_stream(daachorse *handle, bool overlapping, const uint8_t *haystack, size_t len, size_t piece,
-        size_t room, const daachorse_match *wanted, size_t count, size_t row) {
+/* Feeds the haystack to a stream in pieces of this size, ends it, and compares the matches it
+ * reports. */
+static void see_stream(daachorse *handle, uint32_t search, const uint8_t *haystack, size_t len, size_t piece, size_t room,
+        const daachorse_match *wanted, size_t count, size_t row) {
     size_t at = 0, told = 0, written;
-    need(daachorse_begin(handle, overlapping) == DAACHORSE_DONE, "begin", row);
-    do {
+    bool ended = false;
+    need(daachorse_begin(handle, search) == DAACHORSE_DONE, "begin", row);
+    for (;;) {
         daachorse_match found[ROOM];
         size_t taken = 0, size = len - at < piece ? len - at : piece;
         need(daachorse_consume(handle, haystack + at, size, found, room, &taken, &written) == DAACHORSE_DONE, "consume", row);
@@ -72,7 +80,14 @@ static void see_stream(daachorse *handle, bool overlapping, const uint8_t *hayst
             need(is_same(found[i], wanted[told + i]), "a match of a stream", row);
         at += taken;
         told += written;
-    } while (at < len || written == room);
+        if (at < len || written == room)
+            continue;
+        if (ended)
+            break;
+        need(told == count || search == DAACHORSE_LEFTMOST, "the number of matches before the end", row);
+        need(daachorse_end(handle) == DAACHORSE_DONE, "end", row);
+        ended = true;
+    }
     need(told == count, "the number of matches of a stream", row);
 }
 
@@ -107,14 +122,11 @@ static int see_each(void *context, daachorse_match found) {
 }
 
 /* Passes each match on, and stops at the first, at the second and so on, or at none. */
-static void see_calls(daachorse *handle, search_fn *search, const uint8_t *haystack, size_t len,
+static void see_calls(daachorse *handle, each_fn *call, const uint8_t *haystack, size_t len,
         const daachorse_match *wanted, size_t count, size_t row) {
     for (size_t stop = 1; stop <= count + 1; stop++) {
         each_match each = {wanted, 0, stop, row};
-        uint32_t answer = search == daachorse_find_overlapping
-                ? daachorse_find_overlapping_each(handle, haystack, len, see_each, &each)
-                : daachorse_find_each(handle, haystack, len, see_each, &each);
-        need(answer == DAACHORSE_DONE, "calls for each match", row);
+        need(call(handle, haystack, len, see_each, &each) == DAACHORSE_DONE, "calls for each match", row);
         need(each.told == (stop < count ? stop : count), "the number of calls", row);
     }
 }
@@ -147,11 +159,11 @@ static void build(daachorse *handle, uint32_t kind, bool use_prefilter, bool any
 /* Compares a search with the rest of the row. */
 static void see_search(const char *name, uint32_t kind, bool any_case, const pattern_list *list, const char *text,
         size_t count, size_t row) {
-    search_fn *search = search_named(name);
+    const search_calls *calls = search_named(name);
     uint8_t haystack[WORD];
     daachorse_match wanted[ROOM];
     size_t haystack_len = append(haystack, 0, text, strlen(text));
-    need(search != NULL, "the table", row);
+    need(calls != NULL, "the table", row);
     for (size_t i = 0; i < count; i++)
         need(scanf("%zu-%zu-%" SCNu32, &wanted[i].start, &wanted[i].end, &wanted[i].value) == 3, "the table", row);
     for (int use_prefilter = 0; use_prefilter < 2; use_prefilter++) {
@@ -159,19 +171,17 @@ static void see_search(const char *name, uint32_t kind, bool any_case, const pat
         daachorse_match found[ROOM] = {{0, 0, 0}};
         size_t written = 0;
         build(&handle, kind, use_prefilter, any_case, list, row);
-        need(search(&handle, haystack, haystack_len, found, ROOM, &written) == DAACHORSE_DONE, name, row);
+        need(calls->search(&handle, haystack, haystack_len, found, ROOM, &written) == DAACHORSE_DONE, name, row);
         need(written == count, "the number of matches", row);
         for (size_t i = 0; i < count; i++)
             need(is_same(found[i], wanted[i]), "a match", row);
-        if (search == daachorse_find || search == daachorse_find_overlapping)
-            for (size_t piece = 1; piece < 4; piece++)
-                for (size_t room = 1; room < 4; room++)
-                    see_stream(&handle, search == daachorse_find_overlapping, haystack, haystack_len, piece, room, wanted, count, row);
-        if (search == daachorse_find || search == daachorse_leftmost_find)
+        for (size_t piece = 1; piece < 4; piece++)
+            for (size_t room = 1; room < 4; room++)
+                see_stream(&handle, calls->number, haystack, haystack_len, piece, room, wanted, count, row);
+        if (calls->each == daachorse_find_each)
             for (size_t room = 1; room < 4; room++)
                 see_going_on(&handle, haystack, haystack_len, room, wanted, count, row);
-        if (search != daachorse_find_overlapping_no_suffix)
-            see_calls(&handle, search, haystack, haystack_len, wanted, count, row);
+        see_calls(&handle, calls->each, haystack, haystack_len, wanted, count, row);
         daachorse_free(&handle);
     }
 }

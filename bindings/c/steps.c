@@ -27,7 +27,7 @@ int main(int count, char **arguments) {
     }
     daachorse handle = DAACHORSE_EMPTY;
     need(daachorse_build(&handle, DAACHORSE_STANDARD, true, false, bytes, patterns, ends, patterns, values, patterns) == DAACHORSE_DONE, "build");
-    need(daachorse_begin(&handle, true) == DAACHORSE_DONE, "begin");
+    need(daachorse_begin(&handle, DAACHORSE_OVERLAPPING) == DAACHORSE_DONE, "begin");
     do {
         daachorse_match found;
         need(daachorse_consume(&handle, bytes, size, &found, 1, &taken, &written) == DAACHORSE_DONE, "consume");

@@ -50,7 +50,7 @@ int main(int count, char **words) {
     need(daachorse_accelerate(&first, &fast) == DAACHORSE_DONE, "accelerate");
     for (size_t i = 0; i < THREADS; i++) {
         daachorse *shared = i % 4 < 2 ? &first : &fast;
-        uint32_t answer = i % 2 ? daachorse_share(shared, &handles[i]) : daachorse_stream(shared, false, &handles[i]);
+        uint32_t answer = i % 2 ? daachorse_share(shared, &handles[i]) : daachorse_stream(shared, DAACHORSE_FIND, &handles[i]);
         need(answer == DAACHORSE_DONE, daachorse_answer_text(answer));
         need(pthread_create(&threads[i], NULL, search, &handles[i]) == 0, "pthread_create");
     }

@@ -1,18 +1,26 @@
--- What a handle keeps says the same to every thread: an automaton, and where its stream stands, whose counts take no bytes.
+-- What a handle keeps says the same to every thread: an automaton, and where its stream stands, whose counts take no bytes, with what it has to know of the automaton.
 use denote.Param.Send.{IsSend, IsSync, enum_send, recorded_send, sendable, struct_send, view_send}
+use denote.Builtin.{u8}
 use denote.Struct.Declared.{shape}
 use denote.Enum.Declared.{shape as enum_shape}
 use Rattle.core.proofs.snapshot.Sent.{snapshot_send}
 use Rattle.core.proofs.option.Option.TheSendSync as option
 use Rattle.std.proofs.num.nonzero.NonZeroU32.TheSendSync as nonzero
 use Rattle.std.proofs.alloc.Global.TheSendSync as heap
-use Rattle.std.proofs.Crossing.{Arc-send, frees}
+use Rattle.std.specs.contracts.alloc.Global as Heap
+use Rattle.std.specs.contracts.impls.GlobalAllocator.TheImpl.{ghosts}
+use Rattle.std.proofs.Crossing.{Arc-send, Deque-send, Vec-send, frees}
 use Rattle.daachorse_core.specs.contracts.counter.Counter as counter
 use Rattle.daachorse_core.specs.contracts.turns.Turns as turns
 use Rattle.daachorse_core.specs.contracts.turns.Seen as seen
 use Rattle.daachorse_search.specs.contracts.walk.Standing as walk
 use Rattle.daachorse_search.specs.contracts.find_stepper.FindStanding as find
 use Rattle.daachorse_search.specs.contracts.find_stepper.FindStanding.TheInside as find_inside
+use Rattle.daachorse_streams.specs.contracts.leftmost_standing.LeftmostStanding as leftmost
+use Rattle.daachorse_streams.specs.contracts.scan.Pending as pending
+use Rattle.daachorse_streams.specs.contracts.scan.Scan as scan
+use Rattle.daachorse_streams.specs.contracts.search.Search as searching
+use Rattle.daachorse_streams.specs.contracts.stream_marks.StreamMarks as marks
 use Rattle.daachorse_bytewise.proofs.bytewise.DoubleArrayAhoCorasick.TheSendSync as bytewise
 use Rattle.daachorse_bytewise.proofs.bytewise.accelerated.Accelerated.TheSendSync as rowed
 use Rattle.daachorse_c.specs.contracts.automaton.Searcher as automaton
@@ -42,13 +50,30 @@ find_send =
 teller_send : IsSend teller.the_field.row
 teller_send =
     let o = option.the_field_send _ nonzero.the_send in
-    struct_send (shape teller.the_type) (walk_send, (search sendable, (o, tt)))
+    struct_send (shape teller.the_type) (walk_send, (search sendable, (search sendable, (o, tt))))
+
+pending_send : IsSend pending.the_row
+pending_send = recorded_send pending.the_field.row _ _ pending.the_type.to_one (struct_send (shape pending.the_type) (nonzero.the_field_send, (search sendable, tt)))
+
+scan_send : IsSend scan.the_field.row
+scan_send = struct_send (shape scan.the_type) (search sendable, (search sendable, (option.the_field_send _ pending_send, (search sendable, tt))))
+
+searching_send : IsSend (searching.the_field u8 Heap.the_row ghosts).row
+searching_send =
+    struct_send (shape (searching.the_type u8 Heap.the_row ghosts))
+    (Deque-send u8 (search sendable), (search sendable, (scan_send, (search sendable, (search sendable, (search sendable, (turns_send, (seen_send, tt))))))))
+
+leftmost_send : IsSend (leftmost.the_field u8 Heap.the_row ghosts).row
+leftmost_send = struct_send (shape (leftmost.the_type u8 Heap.the_row ghosts)) (searching_send, (search sendable, tt))
+
+marks_send : IsSend (marks.the_field Heap.the_row ghosts).row
+marks_send = struct_send (shape (marks.the_type Heap.the_row ghosts)) (Vec-send _ (search sendable), (search sendable, tt))
 
 standing_send : IsSend standing.the_field.row
-standing_send = enum_send (enum_shape standing.the_type) ((find_send, (search sendable, tt)), ((teller_send, tt), tt))
+standing_send = enum_send (enum_shape standing.the_type) ((find_send, (search sendable, tt)), ((teller_send, tt), ((leftmost_send, tt), tt)))
 
 stream_send : IsSend stream.the_row
-stream_send = recorded_send stream.the_field.row _ _ stream.the_type.to_one (struct_send (shape stream.the_type) (standing_send, (search sendable, tt)))
+stream_send = recorded_send stream.the_field.row _ _ stream.the_type.to_one (struct_send (shape stream.the_type) (standing_send, (marks_send, (search sendable, (search sendable, tt)))))
 
 searches_send : IsSend searches.the_row
 searches_send = let a = heap.the_send in let f = frees in search (sendable, bytewise.the_send, rowed.the_send) depth 20

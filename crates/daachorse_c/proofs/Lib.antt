@@ -7,7 +7,9 @@ mod LeftmostOn
 mod Listed
 mod Places
 mod Registrations
+mod Saving
 mod StandardOn
+mod Steppers
 mod Telling
 mod Told
 mod Values

@@ -1,19 +1,24 @@
--- The matches of a stream, one byte more as it is read: what ends there is put behind what was found.
-use Rattle.std.proofs.Common.{◌≡◌, ℕ, suc, ◌+◌, ◌-◌, ◌<◌, ◌≤◌, Bool, true, false, List, [], ◌∷◌, ◌++◌, map, take, drop, length, refl, sym, ap, ◌∙◌, subst, append_assoc, append-nil, length-append, arith}
+-- What a stream tells: what is found goes on as the text does, and what is told is written behind what was written before.
+use Rattle.std.proofs.Common.{◌≡◌, ℕ, ◌+◌, ◌-◌, ◌<◌, Bool, true, false, List, [], ◌∷◌, ◌++◌, map, take, drop, length, refl, sym, ap, ◌∙◌, append_assoc, append-nil, length-append, arith}
 use borrow.Rule.Slice.PartMut.{mid_of, put_mid}
-use Rattle.std.proofs.lemmas.List.{drop_all, drop_at, drop-append-le, drop-drop, length-drop, length-map, map-append, take_all, take_at, take_rest}
+use Rattle.std.specs.Prelude.{option_to_list, slice_set}
+use Rattle.std.proofs.lemmas.List.{drop_all, drop_at, drop-drop, length-drop, length-map, length-take-le, map-append, take-append-drop, take_at, take_rest}
 use Rattle.daachorse_model.specs.declared.Match.{Match}
 use Rattle.daachorse_model.specs.Dictionary.{Dictionary}
 use Rattle.daachorse_model.specs.Folding.{as_read, folded_unit}
-use Rattle.daachorse_model.specs.Matches.{at_each_end}
+use Rattle.daachorse_model.specs.Matches.{at_each_end, matches_after, standard_after}
 use Rattle.daachorse_model.specs.Units.{byte_width}
 use Rattle.daachorse_model.proofs.StandardEnds.{standard-joined}
 use Rattle.daachorse_search.specs.Scans.{past_each_end}
 use Rattle.daachorse_search.proofs.ScanLaws.{at_each_end-split, past_each_end-append}
 use Rattle.daachorse_c.specs.declared.found.CMatch.{CMatch}
-use Rattle.daachorse_c.specs.Streams.{ending_with, found_in}
-use Rattle.daachorse_c.specs.Writes.{Writes, c_match}
-use Rattle.daachorse_c.proofs.Told.{Told}
+use Rattle.daachorse_c.specs.declared.search.StreamKind.TheVariants.{Find}
+use Rattle.daachorse_c.specs.Streams.{BeginEachFound, all_or_longest, found_in}
+use Rattle.daachorse_c.specs.Tellers.{all_or_first}
+use Rattle.daachorse_c.specs.Writes.{Writes, WritesAll, c_match}
+use Rattle.daachorse_c.proofs.Writing.{one_longer, one_more}
+
+-- ---- what is found
 
 -- a byte is read as one byte
 abbrev unit_as_read : Bool → ℕ → ℕ
@@ -24,73 +29,86 @@ one_as_read : (folds : Bool) (u : ℕ) → as_read folds (u ∷ []) ≡ unit_as_
 one_as_read true u = refl
 one_as_read false u = refl
 
-module _ (K : Dictionary ℕ) where
-  found-each : (all : Bool) (h : List ℕ) → found_in all K h ≡ at_each_end (ending_with all K) [] h
-  found-each true h = refl
-  found-each false h = sym (standard-joined byte_width K (λ u. omega arith) h)
+-- what is found at the end of each beginning, joined
+module _ (found f : List ℕ → List (Match ℕ)) (each : (h : List ℕ) → found h ≡ at_each_end f [] h) where
+  joined-append : (h more : List ℕ) → found (h ++ more) ≡ found h ++ past_each_end f h more
+  joined-append h more =
+      each (h ++ more)
+      ∙ at_each_end-split f [] (h ++ more)
+      ∙ ap (λ l. f [] ++ l) (past_each_end-append f [] h more)
+      ∙ sym (append_assoc (f []) (past_each_end f [] h) (past_each_end f h more))
+      ∙ ap (λ l. l ++ past_each_end f h more) (sym (at_each_end-split f [] h) ∙ sym (each h))
 
-  pub found-none : (all : Bool) → found_in all K [] ≡ ending_with all K []
-  found-none all = found-each all []
-
-  pub found-push : (all : Bool) (h : List ℕ) (u : ℕ) → found_in all K (h ++ u ∷ []) ≡ found_in all K h ++ ending_with all K (h ++ u ∷ [])
-  found-push all h u =
-      let f = ending_with all K in
-      found-each all (h ++ u ∷ [])
-      ∙ at_each_end-split f [] (h ++ u ∷ [])
-      ∙ ap (λ l. f [] ++ l) (past_each_end-append f [] h (u ∷ []))
-      ∙ sym (append_assoc (f []) (past_each_end f [] h) (f (h ++ u ∷ [])))
-      ∙ ap (λ l. l ++ f (h ++ u ∷ [])) (sym (at_each_end-split f [] h) ∙ sym (found-each all h))
-
--- all that was there to write was written, and behind it is written of what comes next
-pub told-more : (all more : List (Match ℕ)) (old new last : List CMatch) (n k : ℕ) → Told all [] old new n → Writes more (drop n new) last k → Told (all ++ more) (drop k more) old (take n new ++ last) (n + k)
-told-more all more old new last n k t w =
-    let whole : n ≡ length all = let long = length-drop n all in let none = ap length t.left in omega (arith, long, none, t.there) in
-    let front : take n all ≡ all = take_all n all (omega (arith, whole)) in
-    let ys = map c_match (take n all) in
-    let len : length ys ≡ n = length-map (take n all) c_match ∙ ap length front ∙ sym whole in
-    let old_left : drop n new ≡ drop n old = ap (drop n) t.wrote ∙ drop_at ys (drop n old) n len in
-    let behind : length (drop n new) ≡ length old - n = ap length old_left ∙ length-drop n old in
-    let front_new : take n new ≡ ys = ap (take n) t.wrote ∙ take_at ys (drop n old) n len in
-    let both : take (n + k) (all ++ more) ≡ all ++ take k more = take_both all more n k whole in
-    record {
-      room = omega (arith, w.room, behind, t.room);
-      there = omega (arith, w.there, whole, length-append all more);
-      left = sym (drop-drop k n (all ++ more)) ∙ ap (drop k) (drop_at all more n (sym whole));
-      wrote =
-          ap (λ l. l ++ last) front_new
-          ∙ ap (λ l. ys ++ l) (w.wrote ∙ ap (λ l. map c_match (take k more) ++ drop k l) old_left)
-          ∙ sym (append_assoc ys (map c_match (take k more)) (drop k (drop n old)))
-          ∙ ap (λ l. l ++ drop k (drop n old)) (sym (map-append c_match (take n all) (take k more)) ∙ ap (λ l. map c_match (l ++ take k more)) front ∙ ap (map c_match) (sym both))
-          ∙ ap (λ l. map c_match (take (n + k) (all ++ more)) ++ l) (drop-drop k n old);
-    }
-  where
-    take_both : (xs ys : List (Match ℕ)) (n k : ℕ) → n ≡ length xs → take (n + k) (xs ++ ys) ≡ xs ++ take k ys
-    take_both [] ys n k e = let none : n + k ≡ k = omega (arith, e) in ap (λ j. take j ys) none
-    take_both (x ∷ xs) ys n k e = let one : n + k ≡ suc (length xs + k) = omega (arith, e) in ap (λ j. take j (x ∷ xs ++ ys)) one ∙ ap (λ l. x ∷ l) (take_both xs ys (length xs) k refl)
-
-module _ (K : Dictionary ℕ) (all folds : Bool) (h text : List ℕ) (u told : ℕ) (read : text ≡ h ++ as_read folds (u ∷ [])) (before : told ≤ length (found_in all K h)) where
-  both : found_in all K text ≡ found_in all K h ++ ending_with all K text
-  both =
+  joined-byte : (folds : Bool) (h text : List ℕ) (u : ℕ) → text ≡ h ++ as_read folds (u ∷ []) → found text ≡ found h ++ f text
+  joined-byte folds h text u read =
       let one = read ∙ ap (λ l. h ++ l) (one_as_read folds u) in
-      ap (found_in all K) one ∙ found-push K all h (unit_as_read folds u) ∙ ap (λ t. found_in all K h ++ ending_with all K t) (sym one)
+      ap found one ∙ joined-append h (unit_as_read folds u ∷ []) ∙ ap (λ t. found h ++ f t) (sym one)
 
-  pub still_before : told ≤ length (found_in all K text)
-  still_before = let long = ap length both ∙ length-append (found_in all K h) (ending_with all K text) in omega (arith, long, before)
+module _ (K : Dictionary ℕ) where
+  -- what the standard search, and that for all or the longest matches, find at the end of a text
+  abbrev pub last_found : List ℕ → List (Match ℕ)
+  last_found t = option_to_list (standard_after byte_width K t)
 
-  -- one byte more: what ends there is told behind all others, in the room that is left
-  pub told-next : {old new last : List CMatch} (n k : ℕ) → Told (drop told (found_in all K h)) [] old new n → Writes (ending_with all K text) (mid_of n (length new - n) new) last k
-      → Told (drop told (found_in all K text)) (drop k (ending_with all K text)) old (put_mid n (length new - n) new last) (n + k)
-  told-next {old} {new} {last} n k t w =
-      let E = ending_with all K text in
-      let joined : drop told (found_in all K text) ≡ drop told (found_in all K h) ++ E = ap (drop told) both ∙ drop-append-le told (found_in all K h) E before in
-      let rest = length-drop n new in
-      let put : put_mid n (length new - n) new last ≡ take n new ++ last =
-      ap (λ l. take n new ++ (last ++ l)) (drop_all (length new - n) (drop n new) (omega (arith, rest))) ∙ ap (λ l. take n new ++ l) (append-nil last) in
-      subst (λ l. Told (drop told (found_in all K text)) (drop k E) old l (n + k)) (sym put)
-      (subst (λ l. Told l (drop k E) old (take n new ++ last) (n + k)) (sym joined) (told-more (drop told (found_in all K h)) E old new last n k t (subst (λ l. Writes E l last k) (take_rest new n) w)))
+  abbrev pub all_found : Bool → List ℕ → List (Match ℕ)
+  all_found longest_only t = all_or_first longest_only (matches_after byte_width K t)
 
--- where nothing is left there is room, so all that ends there was told
-pub told_whole : {all : List (Match ℕ)} (new : List CMatch) {last : List CMatch} (n k size : ℕ) → length new ≡ size → Writes all (mid_of n (length new - n) new) last k → n + k < size → drop k all ≡ []
-told_whole {all} new n k size long w lt =
-    let rest = ap length (take_rest new n) ∙ length-drop n new in
-    drop_all k all (omega (arith, w.whole (omega (arith, rest, long, lt))))
+  find-each : (h : List ℕ) → found_in Find K h ≡ at_each_end last_found [] h
+  find-each h = sym (standard-joined byte_width K (λ u. omega arith) h)
+
+  all-each : (longest_only : Bool) (h : List ℕ) → found_in (all_or_longest longest_only) K h ≡ at_each_end (all_found longest_only) [] h
+  all-each true h = refl
+  all-each false h = refl
+
+  -- one byte more: what ends there is found behind all others
+  pub find-byte : (folds : Bool) (h text : List ℕ) (u : ℕ) → text ≡ h ++ as_read folds (u ∷ []) → found_in Find K text ≡ found_in Find K h ++ last_found text
+  find-byte = joined-byte (found_in Find K) last_found find-each
+
+  pub all-byte : (longest_only folds : Bool) (h text : List ℕ) (u : ℕ) → text ≡ h ++ as_read folds (u ∷ []) → found_in (all_or_longest longest_only) K text ≡ found_in (all_or_longest longest_only) K h ++ all_found longest_only text
+  all-byte longest_only = joined-byte (found_in (all_or_longest longest_only) K) (all_found longest_only) (all-each longest_only)
+
+  -- what was told begins what is found in each text that goes on
+  pub find-stays : (h : List ℕ) (told left : List (Match ℕ)) → found_in Find K h ≡ told ++ left → BeginEachFound Find K h told
+  find-stays h told left is = λ more. let next = past_each_end last_found h more in
+      (left ++ next, joined-append (found_in Find K) last_found find-each h more ∙ ap (λ l. l ++ next) is ∙ append_assoc told left next)
+
+  pub all-stays : (longest_only : Bool) (h : List ℕ) (told left : List (Match ℕ)) → found_in (all_or_longest longest_only) K h ≡ told ++ left → BeginEachFound (all_or_longest longest_only) K h told
+  all-stays longest_only h told left is = λ more. let kind = all_or_longest longest_only in let f = all_found longest_only in let next = past_each_end f h more in
+      (left ++ next, joined-append (found_in kind K) f (all-each longest_only) h more ∙ ap (λ l. l ++ next) is ∙ append_assoc told left next)
+
+-- ---- what is told
+
+-- what is told of what was left, and what is left then
+pub told_more : {found : List (Match ℕ)} (told left : List (Match ℕ)) (n : ℕ) → found ≡ told ++ left → found ≡ (told ++ take n left) ++ drop n left
+told_more told left n is = is ∙ ap (λ l. told ++ l) (sym (take-append-drop n left)) ∙ sym (append_assoc told (take n left) (drop n left))
+
+pub written_some : {left : List (Match ℕ)} {old new : List CMatch} {n : ℕ} → Writes left old new n → WritesAll (take n left) old new n
+written_some {left} {old} {new} {n} w = record { count = sym (length-take-le n left w.there); room = w.room; wrote = w.wrote }
+
+pub written_none : (old : List CMatch) → WritesAll [] old old 0
+written_none old = record { count = refl; room = omega arith; wrote = refl }
+
+-- one match more is written behind what was written, or many
+pub written_one : {xs : List (Match ℕ)} {old new : List CMatch} {n : ℕ} (m : Match ℕ) → WritesAll xs old new n → n < length old → WritesAll (xs ++ m ∷ []) old (slice_set new n (c_match m)) (n + 1)
+written_one {xs} {old} {new} {n} m w lt = record { count = one_longer xs m n w.count; room = omega (arith, lt); wrote = one_more xs m old new n w.count lt w.wrote }
+
+pub written_more : {xs ys : List (Match ℕ)} {old new last : List CMatch} (n k : ℕ) → WritesAll xs old new n → WritesAll ys (mid_of n (length new - n) new) last k
+    → WritesAll (xs ++ ys) old (put_mid n (length new - n) new last) (n + k)
+written_more {xs} {ys} {old} {new} {last} n k w v =
+    let cs = map c_match xs in
+    let long : length cs ≡ n = length-map xs c_match ∙ sym w.count in
+    let front : take n new ≡ cs = ap (take n) w.wrote ∙ take_at cs (drop n old) n long in
+    let behind : drop n new ≡ drop n old = ap (drop n) w.wrote ∙ drop_at cs (drop n old) n long in
+    let rest = take_rest new n ∙ behind in
+    let room = ap length rest ∙ length-drop n old in
+    let put : put_mid n (length new - n) new last ≡ take n new ++ last =
+    ap (λ l. take n new ++ (last ++ l)) (drop_all (length new - n) (drop n new) (omega (arith, length-drop n new))) ∙ ap (λ l. take n new ++ l) (append-nil last) in
+    record {
+      count = omega (arith, w.count, v.count, length-append xs ys);
+      room = omega (arith, w.room, v.room, room);
+      wrote =
+          put
+          ∙ ap (λ l. l ++ last) front
+          ∙ ap (λ l. cs ++ l) (v.wrote ∙ ap (λ l. map c_match ys ++ drop k l) rest ∙ ap (λ l. map c_match ys ++ l) (drop-drop k n old))
+          ∙ sym (append_assoc cs (map c_match ys) (drop (n + k) old))
+          ∙ ap (λ l. l ++ drop (n + k) old) (sym (map-append c_match xs ys));
+    }

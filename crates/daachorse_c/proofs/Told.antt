@@ -1,7 +1,7 @@
 -- What was written so far of matches that are written one by one.
 use Rattle.std.proofs.Common.{◌≡◌, ℕ, ◌+◌, ◌<◌, ◌≤◌, List, [], ◌∷◌, ◌++◌, map, take, drop, length, get_or, refl, sym, ap, ◌∙◌, arith}
 use Rattle.std.specs.Prelude.{slice_set}
-use Rattle.std.proofs.lemmas.List.{drop_all, drop-drop, drop_more, length-drop, length-take, take_more}
+use Rattle.std.proofs.lemmas.List.{drop-drop, drop_more, length-drop, length-take, take_more}
 use Rattle.daachorse_model.specs.declared.Match.{Match}
 use Rattle.daachorse_c.specs.declared.found.CMatch.{CMatch}
 use Rattle.daachorse_c.specs.Writes.{Writes, c_match}
@@ -27,19 +27,6 @@ Writes-from_told {all} {left} {old} {new} {n} t whole = record {
 -- nothing was written
 pub told_nothing : (all : List (Match ℕ)) (old : List CMatch) → Told all all old old 0
 told_nothing all old = record { room = omega arith; there = omega arith; left = refl; wrote = refl }
-
--- the first matches were written, and these are left
-pub told-first : {all some rest : List (Match ℕ)} {old new : List CMatch} {n : ℕ} → all ≡ some → Writes some old new n → rest ≡ drop n some → Told all rest old new n
-told-first {all} {some} {rest} {old} {new} {n} same w is = record {
-  room = w.room;
-  there = omega (arith, w.there, ap length same);
-  left = ap (drop n) same ∙ sym is;
-  wrote = w.wrote ∙ ap (λ l. map c_match (take n l) ++ drop n old) (sym same);
-}
-
--- where there is room, none is left
-pub none_left : {some rest : List (Match ℕ)} {old new : List CMatch} {n : ℕ} → Writes some old new n → rest ≡ drop n some → n < length old → rest ≡ []
-none_left {some} {rest} {old} {new} {n} w is lt = is ∙ drop_all n some (omega (arith, w.whole lt))
 
 -- one match more
 pub told-one : {all rest : List (Match ℕ)} {old new : List CMatch} {n : ℕ} (m : Match ℕ) (ms : List (Match ℕ)) → Told all rest old new n → rest ≡ m ∷ ms → n < length old

@@ -15,6 +15,8 @@ use Rattle.daachorse_c.specs.declared.refusal.Refusal.{Refusal}
 use Rattle.daachorse_c.specs.declared.refusal.Refusal.TheVariants.{EmptyHandle, OutOfMemory, WrongKind}
 use Rattle.daachorse_c.specs.declared.search.SearchKind.{SearchKind}
 use Rattle.daachorse_c.specs.declared.search.SearchKind.TheVariants.{Find, Overlapping, NoSuffix, Leftmost, Whole, Prefixes}
+use Rattle.daachorse_c.specs.declared.search.StreamKind.{StreamKind}
+use Rattle.daachorse_c.specs.declared.search.StreamKind.TheVariants.{Find as Finds, Overlapping as FindsAll, NoSuffix as FindsLongest, Leftmost as FindsLeftmost}
 use Rattle.daachorse_c.specs.Held.{Held}
 use Rattle.daachorse_c.specs.Refusals.{IsDoneOr}
 use Rattle.daachorse_c.specs.Writes.{Writes}
@@ -27,6 +29,22 @@ found_by NoSuffix K haystack = no_suffix byte_width K haystack
 found_by Leftmost K haystack = leftmost byte_width K haystack
 found_by Whole K haystack = matches_of K 0 (length haystack) haystack
 found_by Prefixes K haystack = common_prefixes byte_width K haystack
+
+-- the search of a whole haystack that finds what a stream finds
+abbrev pub search_of : StreamKind → SearchKind
+search_of Finds = Find
+search_of FindsAll = Overlapping
+search_of FindsLongest = NoSuffix
+search_of FindsLeftmost = Leftmost
+
+abbrev pub stream_number : StreamKind → ℕ
+stream_number Finds = 0
+stream_number FindsAll = 1
+stream_number FindsLongest = 2
+stream_number FindsLeftmost = 3
+
+abbrev pub IsUnknownSearch : ℕ → Type 0
+IsUnknownSearch number = (k : StreamKind) → stream_number k ≢ number
 
 abbrev pub ServesKind : SearchKind → MatchKind → Type 0
 ServesKind Find kind = kind ≡ Standard

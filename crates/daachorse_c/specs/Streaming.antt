@@ -1,25 +1,36 @@
 -- What the calls for streams promise, and why they are refused.
-use Rattle.std.specs.Prelude.{◌≡◌, ◌≢◌, ◌⊎◌, ◌+◌, ◌≤◌, ◌^◌, ℕ, Bool, List, Option, IsNone, IsSomeAnd, length}
-use Rattle.daachorse_model.specs.declared.MatchKind.TheVariants.{Standard}
+use Rattle.std.specs.Prelude.{◌≡◌, ◌≢◌, ◌⊎◌, ◌+◌, ◌<◌, ◌≤◌, ◌^◌, ℕ, true, List, Option, Some, IsNone, IsSomeAnd, length}
 use Rattle.daachorse_bytewise.specs.Automata.{kind_of}
 use Rattle.daachorse_c.specs.declared.found.CMatch.{CMatch}
 use Rattle.daachorse_c.specs.declared.refusal.Refusal.{Refusal}
-use Rattle.daachorse_c.specs.declared.refusal.Refusal.TheVariants.{NoStream, StreamTooLong, WrongKind}
+use Rattle.daachorse_c.specs.declared.refusal.Refusal.TheVariants.{NoStream, OutOfMemory, StreamEnded, StreamTooLong, UnknownSearch, WrongKind}
+use Rattle.daachorse_c.specs.declared.search.StreamKind.{StreamKind}
+use Rattle.daachorse_c.specs.declared.search.StreamKind.TheVariants.{Leftmost}
 use Rattle.daachorse_c.specs.declared.stream.Done.{Done}
 use Rattle.daachorse_c.specs.declared.stream.Stream.{Stream}
 use Rattle.daachorse_c.specs.Held.{Held}
 use Rattle.daachorse_c.specs.Refusals.{IsDoneOr}
-use Rattle.daachorse_c.specs.Searches.{IsUseCause}
+use Rattle.daachorse_c.specs.Searches.{IsUnknownSearch, IsUseCause, ServesKind, search_of, stream_number}
 use Rattle.daachorse_c.specs.Streams.{IsAtBeginning, Tells, read_by}
 
--- the automaton is as before, and its stream begins
-pub record HasBegun (all : Bool) (old new : Held) : Type 0 where
+-- the automaton is as before, and a stream of the search with this number begins
+pub record HasBegun (number : ℕ) (old new : Held) : Type 0 where
+  pub kind : StreamKind
+  pub numbered : stream_number kind ≡ number
   pub kept : new.searches ≡ old.searches
-  pub begins : IsSomeAnd new.stream (IsAtBeginning all)
+  pub begins : IsSomeAnd new.stream (IsAtBeginning kind)
 
--- why no stream begins
-abbrev pub IsBeginCause : Option Held → Refusal → Type 0
-IsBeginCause held r = IsUseCause held r ⊎ ((r ≡ WrongKind) × IsSomeAnd held (λ a. kind_of a.searches ≢ Standard))
+-- the search with this number does not serve automata of this kind
+abbrev pub IsOfWrongKind : ℕ → Held → Type 0
+IsOfWrongKind number a = (kind : StreamKind) × (stream_number kind ≡ number) × (ServesKind (search_of kind) (kind_of a.searches) → ⊥)
+
+-- why an automaton begins no stream
+abbrev pub IsNotBegun : ℕ → Held → Refusal → Type 0
+IsNotBegun number a r = ((r ≡ UnknownSearch) × IsUnknownSearch number) ⊎ ((r ≡ WrongKind) × IsOfWrongKind number a) ⊎ ((r ≡ OutOfMemory) × (stream_number Leftmost ≡ number))
+
+-- why a call to begin a stream is refused
+abbrev pub IsBeginCause : ℕ → Option Held → Refusal → Type 0
+IsBeginCause number held r = IsUseCause held r ⊎ IsSomeAnd held (λ a. IsNotBegun number a r)
 
 -- the automaton is as before, and its stream has told what comes next
 pub record HasConsumed (bytes : List ℕ) (old new : Held) (out_old out_new : List CMatch) (done : Done) : Type 0 where
@@ -30,9 +41,17 @@ pub record HasConsumed (bytes : List ℕ) (old new : Held) (out_old out_new : Li
 abbrev pub IsTooLong : Stream → ℕ → ℕ → Type 0
 IsTooLong s bytes room = (2 ^ 64 ≤ length (read_by s.standing) + bytes) ⊎ (2 ^ 64 ≤ s.told + room)
 
+-- why a stream consumes nothing
+abbrev pub IsNotAdmitted : Stream → ℕ → ℕ → Refusal → Type 0
+IsNotAdmitted s bytes room r = ((r ≡ StreamEnded) × (s.ended ≡ true) × (0 < bytes)) ⊎ ((r ≡ StreamTooLong) × IsTooLong s bytes room)
+
+-- why there is no stream to go on
+abbrev pub IsStreamless : Held → Refusal → Type 0
+IsStreamless a r = (r ≡ NoStream) × IsNone a.stream
+
 -- why an automaton's stream consumes nothing
 abbrev pub IsIdleCause : Held → ℕ → ℕ → Refusal → Type 0
-IsIdleCause a bytes room r = ((r ≡ NoStream) × IsNone a.stream) ⊎ ((r ≡ StreamTooLong) × IsSomeAnd a.stream (λ s. IsTooLong s bytes room))
+IsIdleCause a bytes room r = IsStreamless a r ⊎ IsSomeAnd a.stream (λ s. IsNotAdmitted s bytes room r)
 
 -- why a call to consume bytes is refused
 abbrev pub IsConsumeCause : Option Held → ℕ → ℕ → Refusal → Type 0
@@ -43,3 +62,12 @@ pub record IsConsumption (bytes : List ℕ) (old new : Option Held) (out_old out
   pub told : answer ≡ 0 → IsSomeAnd old (λ a. IsSomeAnd new (λ b. HasConsumed bytes a b out_old out_new (record { taken = taken; written = written })))
   pub refused : IsDoneOr (IsConsumeCause old (length bytes) (length out_old)) answer
   pub unchanged : answer ≢ 0 → (new ≡ old) × (out_new ≡ out_old) × (taken ≡ 0) × (written ≡ 0)
+
+-- the automaton is as before, and its stream has ended
+pub record HasEnded (old new : Held) : Type 0 where
+  pub kept : new.searches ≡ old.searches
+  pub ended : IsSomeAnd old.stream (λ s. new.stream ≡ Some (record s { ended = true }))
+
+-- why a call to end a stream is refused
+abbrev pub IsEndCause : Option Held → Refusal → Type 0
+IsEndCause held r = IsUseCause held r ⊎ IsSomeAnd held (λ a. IsStreamless a r)

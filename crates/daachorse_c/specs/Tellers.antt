@@ -1,5 +1,5 @@
--- A search for all matches, one unit at a time, that tells them as there is room: what contracts see of it, and where it stands.
-use Rattle.std.specs.Prelude.{ℕ, Bool, List}
+-- A search for all matches or the longest at each end, one unit at a time, that tells them as there is room: what contracts see of it, and where it stands.
+use Rattle.std.specs.Prelude.{ℕ, Bool, true, false, List, take}
 use Rattle.daachorse_core.specs.Outputs.{number}
 use Rattle.daachorse_core.specs.Seen.{units}
 use Rattle.daachorse_model.specs.declared.Match.{Match}
@@ -8,10 +8,16 @@ use Rattle.daachorse_search.specs.Views.{AutomatonView}
 use Rattle.daachorse_search.specs.Walks.{HasPlace, IsFresh, IsWalking, matches_from}
 use Rattle.daachorse_c.specs.declared.teller.TellerStanding.{TellerStanding}
 
--- its automaton, whether units are folded, the units consumed as they were read, and the matches that end with them and were not told
+-- all of the matches that end at a place, or the first alone, which is the longest
+abbrev pub all_or_first : Bool → List (Match ℕ) → List (Match ℕ)
+all_or_first true ms = take 1 ms
+all_or_first false ms = ms
+
+-- its automaton, whether units are folded, whether only the longest match at each end is told, the units consumed as they were read, and the matches that end with them and were not told
 pub record Telling (A : Type 0) : Type 0 where
   pub automaton : A
   pub folds : Bool
+  pub longest_only : Bool
   pub read : List ℕ
   pub left : List (Match ℕ)
 
@@ -25,4 +31,4 @@ module _ {A : Type 0} (width : ℕ → ℕ) (sees : A → AutomatonView ℕ) (a 
 
   -- what it has still to tell
   abbrev pub left_from : TellerStanding → List (Match ℕ)
-  left_from s = matches_from width (sees a) s.walk.seen (number s.next)
+  left_from s = all_or_first s.longest_only (matches_from width (sees a) s.walk.seen (number s.next))

@@ -2,7 +2,6 @@
 
 ghost use Rattle.std.specs.Prelude.{◌≡◌, ◌≢◌, ◌↔◌, [], None, IfErr, IfOk, IsTrue, OnErr, OnOk, length};
 ghost use Rattle.std.specs.Arc.{arc_value};
-ghost use Rattle.daachorse_model.specs.declared.MatchKind.TheVariants.{Standard};
 ghost use Rattle.daachorse_model.specs.Folding.{as_read};
 ghost use Rattle.daachorse_model.specs.Kinds.{byte_of_kind};
 ghost use Rattle.daachorse_model.specs.Matches.{overlapping};
@@ -15,7 +14,7 @@ ghost use Rattle.daachorse_c.specs.Listing.{IsNotListed, HasListed, arrays};
 ghost use Rattle.daachorse_c.specs.Places.{GoesOn, IsStuckCause};
 ghost use Rattle.daachorse_c.specs.Replacing.{HasReplaced, IsNotReplaced};
 ghost use Rattle.daachorse_c.specs.Searches.{ServesKind, found_by};
-ghost use Rattle.daachorse_c.specs.Streaming.{HasBegun, HasConsumed, IsIdleCause};
+ghost use Rattle.daachorse_c.specs.Streaming.{HasBegun, HasConsumed, HasEnded, IsIdleCause, IsNotBegun, IsStreamless};
 ghost use Rattle.daachorse_c.specs.Writes.{Writes};
 ghost use Rattle.daachorse_c.specs.Written.{IsNotWritten, IsWhole, StandsInFront, form_of};
 
@@ -26,7 +25,7 @@ use crate::place::Place;
 use crate::refusal::Refusal;
 use crate::replacing::Texts;
 use crate::room::{copy_to_front, put_in_front};
-use crate::search::SearchKind;
+use crate::search::{SearchKind, StreamKind};
 use crate::searches::Searches;
 use crate::stream::{Done, Stream};
 use daachorse::DoubleArrayAhoCorasick;
@@ -251,17 +250,18 @@ impl Searcher {
         Ok(())
     }
 
-    /// Begins a stream, for all matches or for those that do not overlap. A previous one ends.
-    pub(crate) fn begin(&mut self, overlapping: bool) -> Result<(), Refusal>
-        ensures begun { OnOk result (HasBegun overlapping self.old self.new) }
-        ensures err { IfErr result (λ r. (r ≡ WrongKind) × (kind_of self.old.searches ≢ Standard)) }
+    /// Begins a stream of the search with this number. A previous one is dropped.
+    pub(crate) fn begin(&mut self, alloc: Global, number: u32) -> Result<(), Refusal>
+        ensures begun { OnOk result (HasBegun number self.old self.new) }
+        ensures err { IfErr result (IsNotBegun number self.old) }
         ensures unchanged { OnErr result (self.new ≡ self.old) }
     {
+        let kind = StreamKind::numbered(number)?;
         let automaton = self.searches.automaton();
-        if !automaton.match_kind().is_standard() {
+        if !kind.search().is_for(automaton.match_kind()) {
             return Err(Refusal::WrongKind);
         }
-        self.stream = Some(Stream::new(automaton, overlapping));
+        self.stream = Some(Stream::new(alloc, automaton, kind)?);
         Ok(())
     }
 
@@ -275,12 +275,25 @@ impl Searcher {
             return Err(Refusal::NoStream);
         };
         let automaton = self.searches.automaton();
-        if !stream.can_count(automaton, bytes.len(), out.len()) {
+        if let Err(refusal) = stream.admit(automaton, bytes.len(), out.len()) {
             self.stream = Some(stream);
-            return Err(Refusal::StreamTooLong);
+            return Err(refusal);
         }
         let (stream, done) = stream.consume(automaton, bytes, out);
         self.stream = Some(stream);
         Ok(done)
+    }
+
+    /// Ends the stream: no more bytes come.
+    pub(crate) fn end(&mut self) -> Result<(), Refusal>
+        ensures ended { OnOk result (HasEnded self.old self.new) }
+        ensures err { IfErr result (IsStreamless self.old) }
+        ensures unchanged { OnErr result (self.new ≡ self.old) }
+    {
+        let Some(stream) = self.stream.take() else {
+            return Err(Refusal::NoStream);
+        };
+        self.stream = Some(stream.ended());
+        Ok(())
     }
 }

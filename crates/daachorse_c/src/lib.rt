@@ -21,7 +21,7 @@ ghost use Rattle.daachorse_c.specs.Places.{IsGoingOn};
 ghost use Rattle.daachorse_c.specs.Refusals.{IsDoneOr, refusal_number};
 ghost use Rattle.daachorse_c.specs.Replacing.{HasReplaced, IsReplaceCause};
 ghost use Rattle.daachorse_c.specs.Searches.{IsSearchOf, IsShareCause, IsUseCause};
-ghost use Rattle.daachorse_c.specs.Streaming.{HasBegun, IsBeginCause, IsConsumption};
+ghost use Rattle.daachorse_c.specs.Streaming.{HasBegun, HasEnded, IsBeginCause, IsConsumption, IsEndCause};
 ghost use Rattle.daachorse_c.specs.Written.{IsRead, IsReadCause, IsWhole, IsWriteCause, StandsInFront, form_of};
 
 use crate::automaton::Searcher;
@@ -473,23 +473,24 @@ pub extern "C" fn daachorse_replace(
     }
 }
 
-/// Begins a stream, a haystack that comes in pieces, for all matches or those of
-/// [`daachorse_find`]. A previous stream ends, and its unreported matches are dropped.
+/// Begins a stream, a haystack that comes in pieces. The search is that of 0 [`daachorse_find`],
+/// 1 [`daachorse_find_overlapping`], 2 [`daachorse_find_overlapping_no_suffix`] or
+/// 3 [`daachorse_leftmost_find`]. A previous stream is dropped, with its unreported matches.
 ///
 /// # Errors
 ///
-/// The numbers of [`Refusal::EmptyHandle`], and of `WrongKind` if the automaton is not standard.
-/// The handle is then unchanged.
+/// The numbers of [`Refusal::EmptyHandle`], `UnknownSearch`, `OutOfMemory`, and of `WrongKind` if
+/// the search does not serve the automaton. The handle is then unchanged.
 #[unsafe(no_mangle)]
-pub extern "C" fn daachorse_begin(alloc: Global, handle: &mut Handle, overlapping: bool) -> u32
-    ensures begun { result ≡ 0 → IsSomeAnd handle.old.automaton (λ a. IsSomeAnd handle.new.automaton (HasBegun overlapping a)) }
-    ensures refused { IsDoneOr (IsBeginCause handle.old.automaton) result }
+pub extern "C" fn daachorse_begin(alloc: Global, handle: &mut Handle, search: u32) -> u32
+    ensures begun { result ≡ 0 → IsSomeAnd handle.old.automaton (λ a. IsSomeAnd handle.new.automaton (HasBegun search a)) }
+    ensures refused { IsDoneOr (IsBeginCause search handle.old.automaton) result }
     ensures unchanged { result ≢ 0 → handle.new.automaton ≡ handle.old.automaton }
 {
     let Some(mut automaton) = handle.take(alloc) else {
         return Refusal::EmptyHandle.number();
     };
-    let answer = automaton.begin(overlapping);
+    let answer = automaton.begin(alloc, search);
     handle.put(automaton);
     match answer {
         Ok(()) => DONE,
@@ -500,13 +501,15 @@ pub extern "C" fn daachorse_begin(alloc: Global, handle: &mut Handle, overlappin
 /// Feeds bytes to the stream, and writes its next matches to `out`.
 ///
 /// The number of bytes consumed is written to `taken`, and that of matches to `written`. Unless
-/// `out` is full, all bytes were consumed and every match so far was reported. Offsets count from
-/// the beginning of the stream.
+/// `out` is full, all bytes were consumed and every match so far was reported, but of leftmost
+/// matches those that are certain, or all after [`daachorse_end`]. Offsets count from the beginning
+/// of the stream.
 ///
 /// # Errors
 ///
-/// The numbers of [`Refusal::EmptyHandle`], `NoStream`, and `StreamTooLong` if an offset or the
-/// number of matches would pass 64 bits. Nothing changes then, and `taken` and `written` are 0.
+/// The numbers of [`Refusal::EmptyHandle`], `NoStream`, `StreamEnded` if bytes come after the end,
+/// and `StreamTooLong` if an offset or the number of matches would pass 64 bits. Nothing changes
+/// then, and `taken` and `written` are 0.
 #[unsafe(no_mangle)]
 pub extern "C" fn daachorse_consume(
     alloc: Global,
@@ -531,6 +534,28 @@ pub extern "C" fn daachorse_consume(
             *written = done.written;
             DONE
         }
+        Err(refusal) => refusal.number(),
+    }
+}
+
+/// Ends the stream: no more bytes come. [`daachorse_consume`] with no bytes reports what is left.
+///
+/// # Errors
+///
+/// The numbers of [`Refusal::EmptyHandle`] and `NoStream`. The handle is then unchanged.
+#[unsafe(no_mangle)]
+pub extern "C" fn daachorse_end(alloc: Global, handle: &mut Handle) -> u32
+    ensures ended { result ≡ 0 → IsSomeAnd handle.old.automaton (λ a. IsSomeAnd handle.new.automaton (HasEnded a)) }
+    ensures refused { IsDoneOr (IsEndCause handle.old.automaton) result }
+    ensures unchanged { result ≢ 0 → handle.new.automaton ≡ handle.old.automaton }
+{
+    let Some(mut automaton) = handle.take(alloc) else {
+        return Refusal::EmptyHandle.number();
+    };
+    let answer = automaton.end();
+    handle.put(automaton);
+    match answer {
+        Ok(()) => DONE,
         Err(refusal) => refusal.number(),
     }
 }

@@ -40,6 +40,10 @@ pub enum Refusal {
     UnknownOption,
     /// The place from which a search goes on is behind the haystack.
     WrongPlace,
+    /// No search of a stream has the given number.
+    UnknownSearch,
+    /// The stream has ended, so it takes no more bytes.
+    StreamEnded,
 }
 
 impl Refusal {
@@ -64,6 +68,8 @@ impl Refusal {
             Refusal::StreamTooLong => 13,
             Refusal::UnknownOption => 14,
             Refusal::WrongPlace => 15,
+            Refusal::UnknownSearch => 16,
+            Refusal::StreamEnded => 17,
         }
     }
 }

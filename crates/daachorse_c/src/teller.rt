@@ -1,4 +1,5 @@
-//! The search for all matches, one unit at a time, which tells them as there is room.
+//! The search for all matches, or the longest at each end, one unit at a time, which tells them as
+//! there is room.
 
 ghost use Rattle.std.specs.Prelude.{◌≡◌, ◌<◌, ◌^◌, ◌+◌, [], ◌∷◌, ◌++◌, drop, length};
 ghost use Rattle.daachorse_core.specs.Outputs.{number};
@@ -8,7 +9,7 @@ ghost use Rattle.daachorse_model.specs.Matches.{matches_after};
 ghost use Rattle.daachorse_model.specs.Units.{size};
 ghost use Rattle.daachorse_search.specs.Views.{IsStandard};
 ghost use Rattle.daachorse_search.specs.Walks.{HasPlace, matches_from};
-ghost use Rattle.daachorse_c.specs.Tellers.{IsTelling, left_from};
+ghost use Rattle.daachorse_c.specs.Tellers.{IsTelling, all_or_first, left_from};
 ghost use Rattle.daachorse_c.specs.Writes.{Writes};
 
 use crate::found::CMatch;
@@ -21,8 +22,8 @@ use daachorse_search::walk;
 use std::marker::Model;
 use std::num::NonZeroU32;
 
-/// A search for all matches that is fed one unit at a time. It tells those that end where it stands
-/// as there is room for them.
+/// A search for all matches, or for the longest at each end, that is fed one unit at a time. It
+/// tells those that end where it stands as there is room for them.
 #[derive(Drop)]
 pub struct Teller<A: Automaton<u32>> {
     walk: OverlappingWalk<u32, A>,
@@ -30,6 +31,8 @@ pub struct Teller<A: Automaton<u32>> {
     place: usize,
     // Whether each unit is folded.
     folds: bool,
+    // Whether of those that end at a place only the longest is told.
+    longest_only: bool,
     // The next output to tell of those that end here.
     next: Option<NonZeroU32>,
 }
@@ -41,6 +44,8 @@ pub struct TellerStanding {
     pub walk: walk::Standing,
     /// The number of bytes consumed.
     pub place: usize,
+    /// Whether of those that end at a place only the longest is told.
+    pub longest_only: bool,
     /// The next output to tell of those that end there.
     pub next: Option<NonZeroU32>,
 }
@@ -50,15 +55,16 @@ impl<A: Automaton<u32>> Model for Teller<A> {
     ghost use Rattle.daachorse_core.specs.Seen.{units};
     ghost use Rattle.daachorse_search.specs.Stepwise.{StandsAt};
     ghost use Rattle.daachorse_search.specs.Walks.{HasPlace, matches_from};
-    ghost use Rattle.daachorse_c.specs.Tellers.{Telling};
+    ghost use Rattle.daachorse_c.specs.Tellers.{Telling, all_or_first};
 
     ghost Value = { Telling A };
 
     ghost view = { λ s. record {
       automaton = s.walk.automaton;
       folds = s.folds;
+      longest_only = s.longest_only;
       read = units s.walk.seen;
-      left = matches_from A.Unit.width (A.sees s.walk.automaton) s.walk.seen (number s.next);
+      left = all_or_first s.longest_only (matches_from A.Unit.width (A.sees s.walk.automaton) s.walk.seen (number s.next));
     } };
 
     ghost invariant = { λ s. StandsAt A.Unit.width (units s.walk.seen) s.place
@@ -67,12 +73,13 @@ impl<A: Automaton<u32>> Model for Teller<A> {
 
 impl<A: Automaton<u32>> Teller<A> {
     /// A teller that has consumed nothing.
-    pub(crate) fn new(automaton: A, folds: bool) -> Self
+    pub(crate) fn new(automaton: A, folds: bool, longest_only: bool) -> Self
         requires { IsStandard (A.sees automaton) }
         ensures automaton { result.automaton ≡ automaton }
         ensures folds { result.folds ≡ folds }
         ensures read { result.read ≡ [] }
-        ensures left { result.left ≡ matches_after A.Unit.width (A.sees automaton).content [] }
+        ensures longest_only { result.longest_only ≡ longest_only }
+        ensures left { result.left ≡ all_or_first longest_only (matches_after A.Unit.width (A.sees automaton).content []) }
     {
         let walk = OverlappingWalk::new(automaton);
         let next = walk.begin();
@@ -80,6 +87,7 @@ impl<A: Automaton<u32>> Teller<A> {
             walk,
             place: 0,
             folds,
+            longest_only,
             next,
         }
     }
@@ -89,15 +97,22 @@ impl<A: Automaton<u32>> Teller<A> {
         requires { IsTelling A.Unit.width A.sees automaton standing }
         ensures automaton { result.automaton ≡ automaton }
         ensures folds { result.folds ≡ folds }
+        ensures longest_only { result.longest_only ≡ standing.longest_only }
         ensures read { result.read ≡ units standing.walk.seen }
         ensures left { result.left ≡ left_from A.Unit.width A.sees automaton standing }
     {
-        let TellerStanding { walk, place, next } = standing;
+        let TellerStanding {
+            walk,
+            place,
+            longest_only,
+            next,
+        } = standing;
         let walk = OverlappingWalk::resume(automaton, walk);
         Teller {
             walk,
             place,
             folds,
+            longest_only,
             next,
         }
     }
@@ -105,6 +120,7 @@ impl<A: Automaton<u32>> Teller<A> {
     /// Where the teller stands, for [`Self::resume`].
     pub(crate) fn into_standing(self) -> TellerStanding
         ensures stands { IsTelling A.Unit.width A.sees self.automaton result }
+        ensures longest_only { result.longest_only ≡ self.longest_only }
         ensures read { units result.walk.seen ≡ self.read }
         ensures left { left_from A.Unit.width A.sees self.automaton result ≡ self.left }
     {
@@ -112,21 +128,28 @@ impl<A: Automaton<u32>> Teller<A> {
             walk,
             place,
             folds: _folds,
+            longest_only,
             next,
         } = self;
         let walk = walk.into_standing();
-        TellerStanding { walk, place, next }
+        TellerStanding {
+            walk,
+            place,
+            longest_only,
+            next,
+        }
     }
 
     /// Tells matches while there is room, and returns how many.
     pub(crate) fn tell(&mut self, out: &mut [CMatch]) -> usize
         ensures automaton { self.new.automaton ≡ self.old.automaton }
         ensures folds { self.new.folds ≡ self.old.folds }
+        ensures longest_only { self.new.longest_only ≡ self.old.longest_only }
         ensures read { self.new.read ≡ self.old.read }
         ensures writes { Writes self.old.left out.old out.new result }
         ensures left { self.new.left ≡ drop result self.old.left }
     {
-        let (written, next) = tell_from(&self.walk, self.place, self.next, out);
+        let (written, next) = tell_from(&self.walk, self.place, self.longest_only, self.next, out);
         self.next = next;
         written
     }
@@ -141,8 +164,9 @@ where
         requires { size A.Unit.width self.old.read + A.Unit.width (A.Unit.unit unit) < 2 ^ 64 }
         ensures automaton { self.new.automaton ≡ self.old.automaton }
         ensures folds { self.new.folds ≡ self.old.folds }
+        ensures longest_only { self.new.longest_only ≡ self.old.longest_only }
         ensures read { self.new.read ≡ self.old.read ++ as_read self.old.folds (A.Unit.unit unit ∷ []) }
-        ensures left { self.new.left ≡ matches_after A.Unit.width (A.sees self.old.automaton).content self.new.read }
+        ensures left { self.new.left ≡ all_or_first self.old.longest_only (matches_after A.Unit.width (A.sees self.old.automaton).content self.new.read) }
     {
         // Folding keeps the number of bytes.
         let bytes = unit.num_bytes();
@@ -156,27 +180,30 @@ where
         requires bytes { bytes ≡ A.Unit.width (A.Unit.unit unit) }
         ensures automaton { self.new.automaton ≡ self.old.automaton }
         ensures folds { self.new.folds ≡ self.old.folds }
+        ensures longest_only { self.new.longest_only ≡ self.old.longest_only }
         ensures read { self.new.read ≡ self.old.read ++ A.Unit.unit unit ∷ [] }
-        ensures left { self.new.left ≡ matches_after A.Unit.width (A.sees self.old.automaton).content self.new.read }
+        ensures left { self.new.left ≡ all_or_first self.old.longest_only (matches_after A.Unit.width (A.sees self.old.automaton).content self.new.read) }
     {
         self.place += bytes;
         self.next = self.walk.advance(unit);
     }
 }
 
-/// Tells the outputs from `next` on while there is room. Returns how many, and the next to tell.
+/// Tells the outputs from `next` on, or the first of them alone, while there is room. Returns how
+/// many, and the next to tell.
 fn tell_from<A: Automaton<u32>>(
     walk: &OverlappingWalk<u32, A>,
     place: usize,
+    first_only: bool,
     mut next: Option<NonZeroU32>,
     out: &mut [CMatch],
 ) -> (usize, Option<NonZeroU32>)
     requires place { place ≡ size A.Unit.width (units walk.now.seen) }
     requires next { HasPlace A.Unit.width (A.sees walk.now.automaton) walk.now.seen (number next) }
-    ensures writes { Writes (matches_from A.Unit.width (A.sees walk.now.automaton) walk.now.seen (number next)) out.old out.new result.0 }
+    ensures writes { Writes (all_or_first first_only (matches_from A.Unit.width (A.sees walk.now.automaton) walk.now.seen (number next))) out.old out.new result.0 }
     ensures next { HasPlace A.Unit.width (A.sees walk.now.automaton) walk.now.seen (number result.1) }
-    ensures left { matches_from A.Unit.width (A.sees walk.now.automaton) walk.now.seen (number result.1)
-        ≡ drop result.0 (matches_from A.Unit.width (A.sees walk.now.automaton) walk.now.seen (number next)) }
+    ensures left { all_or_first first_only (matches_from A.Unit.width (A.sees walk.now.automaton) walk.now.seen (number result.1))
+        ≡ drop result.0 (all_or_first first_only (matches_from A.Unit.width (A.sees walk.now.automaton) walk.now.seen (number next))) }
 {
     let mut written = 0;
     while let Some(position) = next {
@@ -186,7 +213,7 @@ fn tell_from<A: Automaton<u32>>(
         let (found, later) = walk.give(position, place);
         out[written] = CMatch::of(found);
         written += 1;
-        next = later;
+        next = if first_only { None } else { later };
     }
     (written, next)
 }

@@ -9,3 +9,6 @@ returns-in_default c = record {
   refused = inr (EmptyHandle, c.number.ensures.is, inl (refl, subst IsNone (sym c.in_default.ensures.taken) refl));
   unchanged = search rules;
 }
+
+pub returns-in-Ok : goal.returns-in-Ok
+returns-in-Ok c = record { told = λ _. rw (c.in-Some.ensures.taken, c.put.ensures, ← c.deref_mut.ensures.value) c.in-Ok.ensures.consumed; refused = inl refl; unchanged = λ no. absurd (no refl) }

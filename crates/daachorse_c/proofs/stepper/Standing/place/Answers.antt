@@ -9,3 +9,6 @@ returns-in-Find c = let stands = subst (StandsIn c.requires.0) c.in-Find.is c.re
 
 pub returns-in-Overlapping : goal.returns-in-Overlapping
 returns-in-Overlapping c = let stands = subst (StandsIn c.requires.0) c.in-Overlapping.is c.requires.1 in rw c.in-Overlapping.is (stands.place ∙ size-bytes _)
+
+pub returns-in-Leftmost : goal.returns-in-Leftmost
+returns-in-Leftmost c = let stands = subst (StandsIn c.requires.0) c.in-Leftmost.is c.requires.1 in rw c.in-Leftmost.is (c.place-in-Leftmost.ensures ∙ stands.place ∙ size-bytes _)

@@ -61,6 +61,18 @@ ROWS = [
     ("leftmost_find", FIRST, False, WORDS, "aé€b", [(0, 0, 2), (1, 2, 0), (3, 3, 2), (4, 4, 2)]),
 ]
 
+# What streams of leftmost automata tell: kind, patterns, pieces, what is certain with each, what the end tells.
+SECRETS = [b"secret", b"secretary"]
+CERTAIN = [
+    (LONGEST, SECRETS, [b"a sec", b"ret", b"s, secretar", b"y"], [[], [], [(2, 8, 0)], [(11, 20, 1)]], []),
+    (LONGEST, SECRETS, [b"secreta"], [[]], [(0, 6, 0)]),
+    (FIRST, SECRETS, [b"secret", b"ary"], [[(0, 6, 0)], []], []),
+    (LONGEST, [b"a", b"aaab"], [b"aaa", b"c"], [[], [(0, 1, 0), (1, 2, 0), (2, 3, 0)]], []),
+    (LONGEST, ["世界", "世"], ["é世", "世", "界"], [[], [(1, 2, 1)], [(2, 4, 0)]], []),
+    (LONGEST, ["", "é"], ["a", "éb"], [[(0, 0, 0)], [(1, 2, 1)]], [(3, 3, 0)]),
+    (LONGEST, [], [b"ab"], [[]], []),
+]
+
 # Calls that are refused with a sentence, and words of it.
 SENTENCES = [
     (TypeError, "the type bytes: pass a list with it", lambda: Automaton(b"ab")),
@@ -83,7 +95,8 @@ SENTENCES = [
     (Refusal.WRONG_PATTERNS, "there are 4 patterns, and 1 values", lambda: Automaton(PATTERNS, values=[0])),
     (Refusal.WRONG_KIND, "leftmost_find wants an automaton of a leftmost kind", lambda: Automaton(PATTERNS).leftmost_find(b"")),
     (Refusal.WRONG_KIND, "this is of the kind LEFTMOST_FIRST", lambda: Automaton(PATTERNS, kind=FIRST).find(b"")),
-    (Refusal.WRONG_KIND, "stream wants", lambda: Automaton(PATTERNS, kind=LONGEST).stream()),
+    (Refusal.WRONG_KIND, "find_overlapping wants", lambda: Automaton(PATTERNS, kind=LONGEST).stream(overlapping=True)),
+    (Refusal.WRONG_KIND, "no_suffix wants", lambda: Automaton(PATTERNS, kind=FIRST).stream(no_suffix=True)),
     (Refusal.INVALID_AUTOMATON, "do not begin with", lambda: Automaton.read(b"no automaton")),
     (Refusal.INVALID_AUTOMATON, "the value 3, and there are 3 values", lambda: Automaton.read(Automaton(PATTERNS).write(), values=[1, 2, 3])),
     (Refusal.INVALID_AUTOMATON, "no UTF-8", lambda: Automaton.read(Automaton([b"\xff"]).write(), unit=str)),
@@ -166,14 +179,13 @@ class SearchTest(unittest.TestCase):
 
     def test_rows_in_pieces(self):
         for name, kind, any_case, patterns, haystack, matches in [*ROWS, *table()]:
-            if name not in ("find", "find_overlapping"):
-                continue
             with Automaton(patterns, kind=kind, ascii_case_insensitive=any_case) as automaton:
                 for size in (1, 2, 3):
                     with self.subTest(name=name, patterns=patterns, haystack=haystack, size=size):
-                        stream = automaton.stream(overlapping=name == "find_overlapping")
+                        stream = automaton.stream(name == "find_overlapping", name == "find_overlapping_no_suffix")
                         pieces = [haystack[at : at + size] for at in range(0, len(haystack), size)]
-                        self.assertEqual([match for piece in [*pieces, haystack[:0]] for match in stream.feed(piece)], matches)
+                        told = [match for piece in [*pieces, haystack[:0]] for match in stream.feed(piece)]
+                        self.assertEqual(told + stream.finish(), matches)
 
     def test_more_matches_than_room(self):
         for name, kind, patterns, haystack, matches in drawn_rows(40):
@@ -240,6 +252,24 @@ class StreamTest(unittest.TestCase):
             self.assertEqual(another.feed(b"a"), [(0, 1, 0)])
             self.assertEqual(stream.feed(b"xa"), [(1001, 1002, 0)])
         self.assertEqual(another.feed(b"a"), [(1, 2, 0)])
+
+    def test_leftmost_matches_are_told_when_they_are_certain(self):
+        for kind, patterns, pieces, certain, left in CERTAIN:
+            with self.subTest(kind=kind, patterns=patterns, pieces=pieces):
+                stream = Automaton(patterns, kind=kind).stream()
+                self.assertEqual([stream.feed(piece) for piece in pieces], certain)
+                self.assertEqual(stream.finish(), left)
+
+    def test_finished_streams_take_no_piece(self):
+        stream = Automaton(SECRETS, kind=LONGEST).stream()
+        self.assertEqual((stream.finish(), stream.finish()), ([], []))
+        with self.assertRaisesRegex(Refused, "the stream was finished"):
+            stream.feed(b"a")
+
+    def test_more_leftmost_matches_than_room(self):
+        automaton, haystack = Automaton([b"a", b"a" * 3000], kind=LONGEST), b"a" * 2999
+        stream = automaton.stream()
+        self.assertEqual((stream.feed(haystack), stream.finish()), ([], list(automaton.leftmost_find(haystack))))
 
     def test_feeding_takes_linear_time(self):
         stream, pieces, times = Automaton([b"a"]).stream(), [b"a" * 50000, b"a" * 800000], []

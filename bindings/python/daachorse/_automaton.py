@@ -9,7 +9,7 @@ from typing import TYPE_CHECKING, Any, Callable, Iterable, Iterator
 
 from ._form import Facts, described
 from ._handles import FIRST_ROOM, Handles
-from ._library import Kind, Refusal, Refused, library, need_done
+from ._library import Kind, Refusal, Refused, Search, library, need_done
 from ._lookups import Words
 from ._matches import Match, valued
 from ._memory import Memory, Place, memory_of
@@ -195,15 +195,22 @@ class Automaton:
             behind = match.end
         return self._unit().join([*parts, text[behind:]])
 
-    def stream(self, overlapping: bool = False) -> Stream:
-        """Begins a stream, for all matches or for those of `find`. There may be any number at once.
+    def stream(self, overlapping: bool = False, no_suffix: bool = False) -> Stream:
+        """Begins a stream. There may be any number at once.
+
+        Its matches are those of `find`, or of `leftmost_find` if that is what the automaton serves;
+        with overlapping those of `find_overlapping`, and with no_suffix those of
+        `find_overlapping_no_suffix`.
 
         >>> stream = Automaton(["ab"]).stream()
         >>> stream.feed("xa"), stream.feed("b")
         ([], [(1, 3, 0)])
+        >>> stream = Automaton(["ab", "abcd"], kind=Kind.LEFTMOST_LONGEST).stream()
+        >>> stream.feed("xab"), stream.feed("c"), stream.finish()
+        ([], [], [(1, 3, 0)])
         """
-        self._need_kind("stream")
-        return Stream(Feed(self._handles, overlapping), self._unit, self._places(), self._facts.has_empty, self._beside)
+        feed = Feed(self._handles, self._streamed(overlapping, no_suffix))
+        return Stream(feed, self._unit, self._places(), self._facts.has_empty, self._beside)
 
     def items(self) -> list[tuple[Any, Any]]:
         """Returns the patterns of the automaton, each with its value.
@@ -288,6 +295,13 @@ class Automaton:
             return
         raise Refused(Refusal.WRONG_KIND, f"{name} wants an automaton of {wanted}")
 
+    def _streamed(self, overlapping: bool, no_suffix: bool) -> Search:
+        """The search of a stream."""
+        if not overlapping and not no_suffix:
+            return Search.FIND if self.kind == Kind.STANDARD else Search.LEFTMOST
+        self._need_kind("find_overlapping_no_suffix" if no_suffix else "find_overlapping")
+        return Search.NO_SUFFIX if no_suffix else Search.OVERLAPPING
+
     def _apart(self, haystack: Text, size: int = FIRST_ROOM) -> Iterator[tuple[int, int, Any]]:
         return self._search("find" if self.kind == Kind.STANDARD else "leftmost_find", haystack, size)
 
@@ -320,7 +334,7 @@ class Automaton:
         found = call(0, size)
         yield found.matches
         if len(found.matches) == size and name == "find_overlapping" and found.is_dense():
-            yield from streamed(Feed(self._handles, True), memory, places, size)
+            yield from streamed(Feed(self._handles, Search.OVERLAPPING), memory, places, size)
         else:
             yield from overlapping(call, self._reach(), found, size)
 

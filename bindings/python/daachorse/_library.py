@@ -16,6 +16,15 @@ class Kind(enum.IntEnum):
     LEFTMOST_FIRST = 2
 
 
+class Search(enum.IntEnum):
+    """The searches of streams."""
+
+    FIND = 0
+    OVERLAPPING = 1
+    NO_SUFFIX = 2
+    LEFTMOST = 3
+
+
 class Refusal(enum.IntEnum):
     """Why a call was refused."""
 
@@ -34,6 +43,8 @@ class Refusal(enum.IntEnum):
     STREAM_TOO_LONG = 13
     UNKNOWN_OPTION = 14
     WRONG_PLACE = 15
+    UNKNOWN_SEARCH = 16
+    STREAM_ENDED = 17
 
 
 _SENTENCES = {
@@ -44,6 +55,7 @@ _SENTENCES = {
     Refusal.TOO_MANY_ELEMENTS: "the double array would pass 4294967295 elements",
     Refusal.INVALID_AUTOMATON: "the bytes do not begin with an automaton",
     Refusal.STREAM_TOO_LONG: "a place in the stream or the number of its matches would pass 64 bits",
+    Refusal.STREAM_ENDED: "the stream was finished",
 }
 
 
@@ -68,8 +80,9 @@ _EXPORTS = {
     "find_overlapping": _SEARCH,
     "find_overlapping_no_suffix": _SEARCH,
     "is_match": [_HANDLE, *_MEMORY, _FOUND],
-    "begin": [_HANDLE, ctypes.c_bool],
+    "begin": [_HANDLE, ctypes.c_uint32],
     "consume": [_HANDLE, *_MEMORY, *_MEMORY, _SIZE, _SIZE],
+    "end": [_HANDLE],
     "write": [_HANDLE, *_MEMORY, _SIZE],
     "list": [_HANDLE, *_PATTERNS, _SIZE, _SIZE],
     "read": [_HANDLE, *_MEMORY, _SIZE],

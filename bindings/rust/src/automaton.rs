@@ -6,6 +6,7 @@ use crate::handles::Handles;
 use crate::library::*;
 use crate::matches::Matches;
 use crate::refusal::{done, Refusal};
+use crate::stream::Search::{Find, Leftmost, NoSuffix, Overlapping};
 use crate::stream::Stream;
 use std::sync::Arc;
 
@@ -251,9 +252,26 @@ impl Automaton {
     ///
     /// The automaton is not standard ([`Refusal::WrongKind`]), or an allocation failed.
     pub fn stream(&self, overlapping: bool) -> Result<Stream, Refusal> {
-        let mut handle = self.handles.share()?;
-        done(unsafe { daachorse_begin(&mut handle, overlapping) })?;
-        Ok(Stream { handle })
+        Stream::new(&self.handles, if overlapping { Overlapping } else { Find })
+    }
+
+    /// Begins a stream for the matches of [`Automaton::find_overlapping_no_suffix`].
+    ///
+    /// # Errors
+    ///
+    /// As of [`Automaton::stream`].
+    pub fn no_suffix_stream(&self) -> Result<Stream, Refusal> {
+        Stream::new(&self.handles, NoSuffix)
+    }
+
+    /// Begins a stream for the matches of [`Automaton::leftmost_find`]. It tells each as soon as it
+    /// is certain, whatever follows, and [`Stream::finish`] the rest.
+    ///
+    /// # Errors
+    ///
+    /// The automaton is standard ([`Refusal::WrongKind`]), or an allocation failed.
+    pub fn leftmost_stream(&self) -> Result<Stream, Refusal> {
+        Stream::new(&self.handles, Leftmost)
     }
 
     pub(crate) fn of(handle: Handle, longest: usize) -> Automaton {

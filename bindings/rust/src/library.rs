@@ -101,7 +101,7 @@ extern "C" {
         room: usize,
         size: *mut usize,
     ) -> u32;
-    pub(crate) fn daachorse_begin(handle: *mut Handle, overlapping: bool) -> u32;
+    pub(crate) fn daachorse_begin(handle: *mut Handle, search: u32) -> u32;
     pub(crate) fn daachorse_consume(
         handle: *mut Handle,
         bytes: *const u8,
@@ -111,6 +111,7 @@ extern "C" {
         taken: *mut usize,
         written: *mut usize,
     ) -> u32;
+    pub(crate) fn daachorse_end(handle: *mut Handle) -> u32;
     pub(crate) fn daachorse_write(
         handle: *mut Handle,
         out: *mut u8,

@@ -36,10 +36,14 @@ pub enum Refusal {
     UnknownOption = 14,
     /// A search would go on behind the haystack. This crate asks for none such.
     WrongPlace = 15,
+    /// No search of a stream has the number. This crate passes none but those of its streams.
+    UnknownSearch = 16,
+    /// A stream takes no bytes after its end. This crate passes none.
+    StreamEnded = 17,
 }
 
 impl Refusal {
-    const ALL: [Refusal; 15] = [
+    const ALL: [Refusal; 17] = [
         Refusal::OutOfMemory,
         Refusal::EmptyHandle,
         Refusal::UnknownKind,
@@ -55,6 +59,8 @@ impl Refusal {
         Refusal::StreamTooLong,
         Refusal::UnknownOption,
         Refusal::WrongPlace,
+        Refusal::UnknownSearch,
+        Refusal::StreamEnded,
     ];
 }
 
@@ -76,6 +82,8 @@ impl fmt::Display for Refusal {
             Refusal::StreamTooLong => "an offset or the number of matches would pass 64 bits",
             Refusal::UnknownOption => "an option is neither 0 nor 1, or a spare one is not 0",
             Refusal::WrongPlace => "a search would go on behind the haystack",
+            Refusal::UnknownSearch => "no search of a stream has this number",
+            Refusal::StreamEnded => "the stream has ended",
         })
     }
 }

@@ -1,17 +1,33 @@
 //! Streams.
 
-use crate::library::{daachorse_consume, Handle};
+use crate::handles::Handles;
+use crate::library::{daachorse_begin, daachorse_consume, daachorse_end, Handle};
 use crate::matches::{Match, NO_MATCH};
 use crate::refusal::{done, Refusal};
 
+/// The searches of streams.
+#[derive(Clone, Copy)]
+pub(crate) enum Search {
+    Find = 0,
+    Overlapping = 1,
+    NoSuffix = 2,
+    Leftmost = 3,
+}
+
 /// A stream: a haystack that comes in pieces. Offsets count from its beginning.
 pub struct Stream {
-    pub(crate) handle: Handle,
+    handle: Handle,
 }
 
 impl Stream {
-    /// Feeds the next piece, and returns the matches that end in it. The first call also returns
-    /// the empty matches at the beginning.
+    pub(crate) fn new(handles: &Handles, search: Search) -> Result<Stream, Refusal> {
+        let mut handle = handles.share()?;
+        done(unsafe { daachorse_begin(&mut handle, search as u32) })?;
+        Ok(Stream { handle })
+    }
+
+    /// Feeds the next piece, and returns the matches that end in it, or of a leftmost stream those
+    /// that are certain by now. The first call also returns the empty matches at the beginning.
     ///
     /// ```
     /// use daachorse_c::{Automaton, Kind};
@@ -48,5 +64,26 @@ impl Stream {
                 return Ok(matches);
             }
         }
+    }
+
+    /// Ends the haystack, and returns the matches that are left: only leftmost ones can be.
+    ///
+    /// ```
+    /// use daachorse_c::{Automaton, Kind};
+    ///
+    /// let patterns: [&[u8]; 2] = [b"ab", b"abcd"];
+    /// let automaton = Automaton::new(Kind::LeftmostLongest, true, patterns)?;
+    /// let mut stream = automaton.leftmost_stream()?;
+    /// assert!(stream.feed(b"xabc")?.is_empty());
+    /// assert_eq!(stream.finish()?[0].end, 3);
+    /// # Ok::<(), daachorse_c::Refusal>(())
+    /// ```
+    ///
+    /// # Errors
+    ///
+    /// The number of matches would pass a `usize`.
+    pub fn finish(mut self) -> Result<Vec<Match>, Refusal> {
+        done(unsafe { daachorse_end(&mut self.handle) })?;
+        self.feed(b"")
     }
 }

@@ -125,14 +125,19 @@ fn each_row_is_found() {
                 };
                 assert_eq!(triples(found), wanted, "{words:?}");
             }
-            if let "find" | "find_overlapping" = words[0] {
-                let mut stream = automaton.stream(words[0] != "find").unwrap();
-                let mut told = triples(stream.feed(b""));
-                for piece in haystack.chunks(2) {
-                    told.extend(triples(stream.feed(piece)));
-                }
-                assert_eq!(told, wanted, "{words:?}");
+            let stream = match words[0] {
+                "find" => automaton.stream(false),
+                "find_overlapping" => automaton.stream(true),
+                "find_overlapping_no_suffix" => automaton.no_suffix_stream(),
+                _ => automaton.leftmost_stream(),
+            };
+            let mut stream = stream.unwrap();
+            let mut told = triples(stream.feed(b""));
+            for piece in haystack.chunks(2) {
+                told.extend(triples(stream.feed(piece)));
             }
+            told.extend(triples(stream.finish()));
+            assert_eq!(told, wanted, "{words:?}");
         }
     }
 }
@@ -219,10 +224,24 @@ fn a_stream_tells_what_a_search_finds() {
     told.extend(triples(stream.feed(&[b'a'; 500])));
     assert_eq!(told, wanted);
     let first = Automaton::new(Kind::LeftmostFirst, true, patterns).unwrap();
-    assert_eq!(
-        first.stream(true).map(|_| ()).err(),
-        Some(Refusal::WrongKind)
-    );
+    for refused in [
+        first.stream(true),
+        first.no_suffix_stream(),
+        automaton.leftmost_stream(),
+    ] {
+        assert_eq!(refused.map(|_| ()).err(), Some(Refusal::WrongKind));
+    }
+}
+
+#[test]
+fn leftmost_matches_are_told_when_they_are_certain() {
+    let patterns: [&[u8]; 2] = [b"secret", b"secretary"];
+    let automaton = Automaton::new(Kind::LeftmostLongest, true, patterns).unwrap();
+    let mut stream = automaton.leftmost_stream().unwrap();
+    assert_eq!(triples(stream.feed(b"a secret")), []);
+    assert_eq!(triples(stream.feed(b"s, secretar")), [(2, 8, 0)]);
+    assert_eq!(triples(stream.feed(b"y: secret")), [(11, 20, 1)]);
+    assert_eq!(triples(stream.finish()), [(22, 28, 0)]);
 }
 
 #[test]

@@ -5,7 +5,7 @@ use Rattle.std.proofs.lemmas.Grind.{flat_map-append}
 use Rattle.std.proofs.lemmas.List.{map-append, take_more}
 use Rattle.std.proofs.lemmas.List.Elements.{All-append, All-cons, All-nil}
 use Rattle.std.proofs.lemmas.List.Folds.{list_any-append}
-use Rattle.std.specs.Prelude.{◌^◌, IfOk, OnErr, OnOk, is_none}
+use Rattle.std.specs.Prelude.{◌^◌, IfOk, OnErr, OnOk}
 use Rattle.std.specs.Int.{w32}
 use Rattle.std.specs.Borrow.{Bor}
 use Rattle.std.specs.Io.KnownBytes.{Appends, Keeps}
@@ -24,10 +24,12 @@ use Rattle.daacgrep_command.specs.declared.search.Task.{Task}
 use Rattle.daacgrep_command.specs.declared.flag.Flag.{Flag}
 use Rattle.daacgrep_command.specs.declared.flag.Flag.TheVariants.{Help, IgnoreCase, Quiet, Values, Version}
 use Rattle.daacgrep_command.specs.Flags.{asks}
-use Rattle.daacgrep_command.specs.Lines.{TextLine, lines_from}
+use Rattle.daacgrep_command.specs.Lines.{TextLine, lines_from, lines_of}
 use Rattle.daacgrep_command.specs.Options.{Asked, CanBeMet, last_of, options_of, requests}
-use Rattle.daacgrep_command.specs.Asked.{AreFilesOf, AreSearched, AreSought, Ends, EndsBy, GivenFile, GivesPatterns, HasRead, IsAnswer, IsAutomatonAsked, IsCutOff, IsSave, IsSearch, IsSearched, IsWork, both, closed_file, dictionary_asked, files_text, kind_asked, names_asked, names_patterns, outcome_of, rules_asked, selects_of, shown, sought_asked, status_of, status_of_outcome, task_of, tells_of_itself, text_of_file}
-use Rattle.daacgrep_command.specs.Printed.{file_text}
+use Rattle.daacgrep_command.specs.Asked.{AreFilesOf, AreSearched, AreSought, Ends, EndsBy, GivenFile, GivesPatterns, HasRead, IsAnswer, IsAutomatonAsked, IsCutOff, IsSave, IsSearch, IsSearched, IsWork, both, closed_file, dictionary_asked, files_text, is_unread, kind_asked, names_asked, names_patterns, outcome_of, rules_asked, selects_of, shown, sought_asked, status_of, status_of_outcome, task_of, tells_of_itself, text_of_file}
+use Rattle.daacgrep_command.specs.Printed.{file_text, has_selected}
+use Rattle.daacgrep_command.specs.Reading.{IsFileSearched}
+use Rattle.daacgrep_command.specs.Streams.{Has, IsOpened, TellsOf}
 use Rattle.daacgrep_command.specs.Rules.{pattern_of}
 use Rattle.daacgrep_command.specs.Saved.{SavedFile, Stores}
 use Rattle.daacgrep_command.specs.Sought.{Sought, sought_of}
@@ -42,22 +44,29 @@ Files = Option (List ℕ → Option (List ℕ))
 
 -- no file, one, and files one after the other
 pub files_none : (given : Files) → AreFilesOf given [] []
-files_none given = record { named = refl; told = All-nil (λ (f : GivenFile). Tells given f.name f.bytes) }
+files_none given = record { named = refl; told = All-nil (λ (f : GivenFile). TellsOf given f.name f.bytes f.cut) }
 
-pub file_one : (given : Files) (name : List ℕ) (bytes : Option (List ℕ)) → Tells given name bytes → AreFilesOf given (name ∷ []) (record { name = name; bytes = bytes } ∷ [])
-file_one given name bytes t =
-    let P : GivenFile → Type 0 = λ f. Tells given f.name f.bytes in
-    record { named = refl; told = All-cons P (record { name = name; bytes = bytes }) [] t (All-nil P) }
+pub file_one : (given : Files) (name : List ℕ) (bytes : Option (List ℕ)) (cut : Bool) → TellsOf given name bytes cut → AreFilesOf given (name ∷ []) (record { name = name; bytes = bytes; cut = cut } ∷ [])
+file_one given name bytes cut t =
+    let P : GivenFile → Type 0 = λ f. TellsOf given f.name f.bytes f.cut in
+    record { named = refl; told = All-cons P (record { name = name; bytes = bytes; cut = cut }) [] t (All-nil P) }
 
 pub files_then : (given : Files) (names more : List (List ℕ)) (files later : List GivenFile) → AreFilesOf given names files → AreFilesOf given more later → AreFilesOf given (names ++ more) (files ++ later)
 files_then given names more files later p q = record {
   named = map-append (λ (f : GivenFile). f.name) files later ∙ ap (λ l. l ++ map (λ (f : GivenFile). f.name) later) p.named ∙ ap (λ l. names ++ l) q.named;
-  told = All-append (λ (f : GivenFile). Tells given f.name f.bytes) files later p.told q.told;
+  told = All-append (λ (f : GivenFile). TellsOf given f.name f.bytes f.cut) files later p.told q.told;
 }
 
 bytes_told : (given : Files) (name : List ℕ) → (bytes : Option (List ℕ)) × Tells given name bytes
 bytes_told None name = (None, tt)
 bytes_told (Some f) name = (f name, refl)
+
+-- a file that was opened has what was left of it
+opened_told : (given : Files) (name : List ℕ) (left : Option (List ℕ)) (bytes : List ℕ) (cut : Bool) → IsOpened given name left → Has cut left bytes → TellsOf given name (Some bytes) cut
+opened_told None name left bytes false opened has = tt
+opened_told None name left bytes true opened has = ([], tt)
+opened_told (Some f) name left bytes false (all, is, kept) has = is ∙ ap Some (subst (λ l. Has false l bytes) kept has)
+opened_told (Some f) name left bytes true (all, is, kept) has = let r = subst (λ l. Has true l bytes) kept has in (r.0, is ∙ ap Some r.1)
 
 -- there are files of any names
 pub files_of_all : (given : Files) (names : List (List ℕ)) → (files : List GivenFile) × AreFilesOf given names files
@@ -65,17 +74,17 @@ files_of_all given [] = ([], files_none given)
 files_of_all given (name ∷ names) =
     let first = bytes_told given name in
     let later = files_of_all given names in
-    (record { name = name; bytes = first.0 } ∷ later.0, files_then given (name ∷ []) names _ later.0 (file_one given name first.0 first.1) later.1)
+    (record { name = name; bytes = first.0; cut = false } ∷ later.0, files_then given (name ∷ []) names _ later.0 (file_one given name first.0 false first.1) later.1)
 
 -- one file more was read
-pub read_more : (given : Files) (names : List (List ℕ)) (name bytes old mid new : List ℕ) → HasRead given names old mid → Tells given name (Some bytes) → new ≡ mid ++ closed_file (record { name = name; bytes = Some bytes })
+pub read_more : (given : Files) (names : List (List ℕ)) (name bytes old mid new : List ℕ) → HasRead given names old mid → Tells given name (Some bytes) → new ≡ mid ++ closed_file (record { name = name; bytes = Some bytes; cut = false })
     → HasRead given (names ++ name ∷ []) old new
 read_more given names name bytes old mid new h t e =
-    let file : GivenFile = record { name = name; bytes = Some bytes } in
+    let file : GivenFile = record { name = name; bytes = Some bytes; cut = false } in
     record {
       files = h.files ++ file ∷ [];
-      are_files = files_then given names (name ∷ []) h.files _ h.are_files (file_one given name (Some bytes) t);
-      are_read = list_any-append (λ (f : GivenFile). is_none f.bytes) h.files (file ∷ []) ∙ ap (λ b. b || false) h.are_read;
+      are_files = files_then given names (name ∷ []) h.files _ h.are_files (file_one given name (Some bytes) false t);
+      are_read = list_any-append is_unread h.files (file ∷ []) ∙ ap (λ b. b || false) h.are_read;
       added = e ∙ ap (λ l. l ++ closed_file file) h.added ∙ append_assoc old (flat_map closed_file h.files) (closed_file file)
           ∙ ap (λ l. old ++ (flat_map closed_file h.files ++ l)) (sym (append-nil (closed_file file))) ∙ ap (λ l. old ++ l) (sym (flat_map-append closed_file h.files (file ∷ [])));
     }
@@ -87,7 +96,7 @@ module _ (s : Sought) (rules : List (List ℕ)) (task : Task) where
   outcome_append : (files later : List GivenFile) → outcome_of s task (files ++ later) ≡ both (outcome_of s task files) (outcome_of s task later)
   outcome_append files later =
       let a = list_any-append (selects_of s task) files later in
-      let b = list_any-append (λ (f : GivenFile). is_none f.bytes) files later in cc
+      let b = list_any-append is_unread files later in cc
 
   module _ {E : Type 0} (given : Files) (a b c : Option (List ℕ)) (f g h : ℕ) where
     -- more files were searched
@@ -305,33 +314,32 @@ module _ (s : Sought) (rules : List (List ℕ)) (task : Task) (given : Files) wh
   pub searched_none : {E : Type 0} (a : Option (List ℕ)) (f : ℕ) → AreSearched s rules task given [] {E = E} a a f f (Ok (record { selected = false; trouble = false }))
   searched_none a f = record { files = []; are_files = files_none given; written = record { whole = Appends-nil a; unfailed = refl; beginning = tt; failed = tt }; outcome = refl }
 
-  -- one file was searched: writing failed, or did not
-  module _ (a b : Option (List ℕ)) (f g : ℕ) (name bytes : List ℕ) (n t : List ℕ) (told : Tells given name (Some bytes)) (named : n ≡ shown name) (read : t ≡ bytes) where
-    text_one : file_text s rules task n t ≡ files_text s rules task (record { name = name; bytes = Some bytes } ∷ [])
-    text_one = ap (λ m. file_text s rules task m t) named ∙ ap (file_text s rules task (shown name)) read ∙ sym (append-nil (file_text s rules task (shown name) bytes))
+  -- one file was searched
+  module _ (a b : Option (List ℕ)) (f g : ℕ) (name n : List ℕ) (left : Option (List ℕ)) (opened : IsOpened given name left) (named : n ≡ shown name) where
+    text_one : (bytes : List ℕ) (cut : Bool) → file_text s rules task n bytes ≡ files_text s rules task (record { name = name; bytes = Some bytes; cut = cut } ∷ [])
+    text_one bytes cut = ap (λ m. file_text s rules task m bytes) named ∙ sym (append-nil (file_text s rules task (shown name) bytes))
 
-    pub one_failed : {E T D : Type 0} (d : D) (e : E) → IsWritten {T = T} {E = D} a b f g (Err d) (file_text s rules task n t) → AreSearched s rules task given (name ∷ []) {E = E} a b f g (Err e)
+    pub one_failed : {E D : Type 0} (d : D) (e : E) → IsFileSearched s rules task n left {E = D} a b f g (Err d) → AreSearched s rules task given (name ∷ []) {E = E} a b f g (Err e)
     one_failed d e w = record {
-      files = record { name = name; bytes = Some bytes } ∷ [];
-      are_files = file_one given name (Some bytes) told;
-      written = record { whole = tt; unfailed = tt; beginning = subst (AppendsBeginning a b) text_one w.beginning; failed = w.failed };
+      files = record { name = name; bytes = Some w.bytes; cut = w.cut } ∷ [];
+      are_files = file_one given name (Some w.bytes) w.cut (opened_told given name left w.bytes w.cut opened w.has);
+      written = record { whole = tt; unfailed = tt; beginning = subst (AppendsBeginning a b) (text_one w.bytes w.cut) w.written.beginning; failed = w.written.failed };
       outcome = tt;
     }
 
-    pub one_searched : {E : Type 0} (x : Bool) → IsWritten {T = Bool} {E = E} a b f g (Ok x) (file_text s rules task n t) → x ≡ selects_of s task (record { name = name; bytes = Some t })
-        → AreSearched s rules task given (name ∷ []) {E = E} a b f g (Ok (record { selected = x; trouble = false }))
-    one_searched x w is = record {
-      files = record { name = name; bytes = Some bytes } ∷ [];
-      are_files = file_one given name (Some bytes) told;
-      written = record { whole = subst (Appends a b) text_one w.whole; unfailed = w.unfailed; beginning = tt; failed = tt };
-      outcome = ap (λ b. record { selected = b; trouble = false }) (is ∙ ap (λ b. selects_of s task (record { name = name; bytes = Some b })) read ∙ sym (or_false (selects_of s task (record { name = name; bytes = Some bytes }))));
+    pub one_searched : {E : Type 0} (o : Outcome) → IsFileSearched s rules task n left {E = E} a b f g (Ok o) → AreSearched s rules task given (name ∷ []) {E = E} a b f g (Ok o)
+    one_searched o w = record {
+      files = record { name = name; bytes = Some w.bytes; cut = w.cut } ∷ [];
+      are_files = file_one given name (Some w.bytes) w.cut (opened_told given name left w.bytes w.cut opened w.has);
+      written = record { whole = subst (Appends a b) (text_one w.bytes w.cut) w.written.whole; unfailed = w.written.unfailed; beginning = tt; failed = tt };
+      outcome = (λ i. record { selected = (w.selected ∙ sym (or_false (has_selected s task.inverts (lines_of task.labels.end w.bytes)))) i; trouble = (w.trouble ∙ sym (or_false w.cut)) i });
     }
 
   -- a file could not be read
   pub one_unread : {E : Type 0} (a : Option (List ℕ)) (f : ℕ) (name : List ℕ) → Tells given name None → AreSearched s rules task given (name ∷ []) {E = E} a a f f (Ok (record { selected = false; trouble = true }))
   one_unread a f name told = record {
-    files = record { name = name; bytes = None } ∷ [];
-    are_files = file_one given name None told;
+    files = record { name = name; bytes = None; cut = false } ∷ [];
+    are_files = file_one given name None false told;
     written = record { whole = Appends-nil a; unfailed = refl; beginning = tt; failed = tt };
     outcome = refl;
   }

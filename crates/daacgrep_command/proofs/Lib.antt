@@ -1,6 +1,10 @@
 pub mod Asking
 pub mod Cuts
+pub mod FirstMatch
 pub mod FlagTexts
+pub mod Fronts
+pub mod Parts
+pub mod Passing
 pub mod Requests
 pub mod Selected
 pub mod Writing

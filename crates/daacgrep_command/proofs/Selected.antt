@@ -17,7 +17,7 @@ use Rattle.daachorse_model.proofs.Find.{leftmost_occur}
 use Rattle.daachorse_model.proofs.FoldLaws.{length-as_read}
 use Rattle.daachorse_model.proofs.Occur.{overlapping_occur}
 use Rattle.daachorse_model.proofs.Suffixes.{size-bytes}
-use Rattle.daacgrep_command.specs.Lines.{lines_from, lines_of, pieces_of}
+use Rattle.daacgrep_command.specs.Lines.{lines_from, pieces_of}
 use Rattle.daacgrep_command.specs.Printed.{has_any}
 use Rattle.daacgrep_command.specs.Sought.{Sought, matches_by, matches_in}
 use Rattle.daacgrep_command.proofs.Cuts.{first_stays}
@@ -56,7 +56,7 @@ pub leftmost_named : (asked kind : MatchKind) (K : Dictionary ℕ) (h : List ℕ
 leftmost_named asked kind K h (inl is) same = ap (λ k. matches_by k K h) (sym is ∙ same)
 leftmost_named asked kind K h (inr is) same = ap (λ k. matches_by k K h) (sym is ∙ same)
 
-matches_occur : (kind : MatchKind) (K : Dictionary ℕ) (h : List ℕ) → All (IsOccurrence byte_width K h) (matches_by kind K h)
+pub matches_occur : (kind : MatchKind) (K : Dictionary ℕ) (h : List ℕ) → All (IsOccurrence byte_width K h) (matches_by kind K h)
 matches_occur Standard K h = overlapping_occur byte_width K h
 matches_occur LeftmostLongest K h = leftmost_occur byte_width K h
 matches_occur LeftmostFirst K h = leftmost_occur byte_width K h
@@ -89,17 +89,8 @@ few_pieces mark (x ∷ text) =
     by_byte (x == mark) x (length text) pieces (omega (arith, length-slice_split (λ b. b == mark) text)) (few_pieces mark text)
 
 -- a text has no more lines than bytes
-pub lines_few : (mark : ℕ) (text : List ℕ) → length (lines_of mark text) ≤ length text
-lines_few mark text = omega (arith, length-lines_from 0 0 (pieces_of mark text), few_pieces mark text)
-
-pub or_assoc : (a b c : Bool) → (a || (b || c)) ≡ ((a || b) || c)
-or_assoc true b c = refl
-or_assoc false b c = refl
-
--- what is written where something is selected
-pub chosen : (b : Bool) (t : List ℕ) → b ≡ true → t ≡ cond b t []
-chosen true t e = refl
-chosen false t e = cc
+pub lines_few : (mark before start : ℕ) (text : List ℕ) → length (lines_from before start (pieces_of mark text)) ≤ length text
+lines_few mark before start text = omega (arith, length-lines_from before start (pieces_of mark text), few_pieces mark text)
 
 one_counted : (b : Bool) (n : ℕ) (r : Bool) → nat_lt 0 n ≡ r → nat_lt 0 (cond b 1 0 + n) ≡ (b || r)
 one_counted true n r h = lt-ltb 0 (1 + n) (omega arith)

@@ -31,21 +31,27 @@ use Rattle.daacgrep_command.specs.Options.{Asked, CanBeMet, are_any, last_of, op
 use Rattle.daacgrep_command.specs.Rules.{pattern_of}
 use Rattle.daacgrep_command.specs.Saved.{SavedFile, Stores}
 use Rattle.daacgrep_command.specs.Sought.{Sought}
+use Rattle.daacgrep_command.specs.Streams.{TellsOf}
 use Rattle.daacgrep_command.specs.Printed.{file_text, has_selected}
 
--- a file that was asked for: its name, and its bytes, or none where it cannot be read
+-- a file that was asked for: its name, its bytes, or none where it cannot be read, and whether an error cut them off
 pub record GivenFile : Type 0 where
   pub name : List ℕ
   pub bytes : Option (List ℕ)
+  pub cut : Bool
 
 -- these are the files of these names
 pub record AreFilesOf (given : Option (List ℕ → Option (List ℕ))) (names : List (List ℕ)) (files : List GivenFile) : Type 0 where
   pub named : map (λ f. f.name) files ≡ names
-  pub told : All (λ f. Tells given f.name f.bytes) files
+  pub told : All (λ f. TellsOf given f.name f.bytes f.cut) files
 
--- one of them cannot be read
+-- the file cannot be read, or not to its end
+abbrev pub is_unread : GivenFile → Bool
+is_unread f = is_none f.bytes || f.cut
+
+-- one of them is such a file
 abbrev pub has_unread : List GivenFile → Bool
-has_unread files = list_any (λ f. is_none f.bytes) files
+has_unread files = list_any is_unread files
 
 -- how the matches are found: all of them, or of those at one start that of the first pattern, or the longest
 abbrev pub kind_asked : List Flag → MatchKind
@@ -158,7 +164,7 @@ module _ (s : Sought) (task : Task) where
   abbrev pub outcome_of : List GivenFile → Outcome
   outcome_of files = record { selected = list_any selects_of files; trouble = has_unread files }
 
--- 0 where a line is selected, 1 where none is, and 2 where a file cannot be read, unless a line is selected and only this was asked
+-- 0 where a line is selected, 1 where none is, and 2 where a file cannot be read to its end, unless a line is selected and only this was asked
 abbrev pub status_of_outcome : Bool → Outcome → ℕ
 status_of_outcome quiet o = if o.trouble && not (quiet && o.selected) then 2 else (if o.selected then 0 else 1)
 

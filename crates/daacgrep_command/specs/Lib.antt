@@ -1,9 +1,13 @@
+pub mod Ahead
 pub mod Asked
 pub mod Fields
 pub mod Flags
 pub mod Lines
 pub mod Options
 pub mod Printed
+pub mod Reading
 pub mod Rules
 pub mod Saved
 pub mod Sought
+pub mod Streams
+pub mod Windows

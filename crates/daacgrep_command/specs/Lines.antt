@@ -1,5 +1,5 @@
 -- The lines of a text, with their numbers and places.
-use Rattle.std.specs.Prelude.{ℕ, ◌+◌, ◌==◌, List, [], ◌∷◌, length}
+use Rattle.std.specs.Prelude.{ℕ, ◌+◌, ◌==◌, Bool, List, [], ◌∷◌, length, if◌then◌else◌}
 use Rattle.std.specs.List.{slice_split}
 use Rattle.daachorse_model.specs.Program.{without_empty_end}
 use Rattle.daacgrep_command.specs.declared.line.Line.{Line}
@@ -9,6 +9,10 @@ pub record TextLine : Type 0 where
   pub number : ℕ
   pub start : ℕ
   pub bytes : List ℕ
+
+-- the line, with its number where that is asked for, and else with 0
+abbrev pub numbered : Bool → TextLine → TextLine
+numbered asked line = record { number = if asked then line.number else 0; start = line.start; bytes = line.bytes }
 
 abbrev pub seen : Line → TextLine
 seen line = record { number = line.number; start = line.start; bytes = line.bytes.now }

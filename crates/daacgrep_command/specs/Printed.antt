@@ -1,5 +1,5 @@
 -- The text that is written of a file.
-use Rattle.std.specs.Prelude.{ℕ, ◌+◌, ◌==◌, Bool, true, false, not, List, [], ◌∷◌, ◌++◌, count_by, decimal, flat_map, slice_range, if◌then◌else◌}
+use Rattle.std.specs.Prelude.{ℕ, ◌+◌, ◌==◌, Bool, true, false, not, List, [], ◌∷◌, ◌++◌, count_by, decimal, flat_map, nat_lt, slice_range, if◌then◌else◌}
 use Rattle.std.specs.List.{list_any}
 use Rattle.daachorse_model.specs.declared.Match.{Match}
 use Rattle.daachorse_model.specs.Folding.{as_read}
@@ -22,6 +22,14 @@ has_any (x ∷ xs) = true
 -- what is written of a match: nothing, where it is empty, and else its part of the line behind its own labels
 abbrev pub match_text : List (List ℕ) → Labels → List ℕ → TextLine → Match ℕ → List ℕ
 match_text rules labels name line m = if m.start == m.end then [] else entry labels name line.number (line.start + m.start) (match_value rules m) (slice_range line.bytes m.start m.end)
+
+-- what is written behind the lines of a file, of which n are selected: their number, or the name where there is one
+abbrev pub end_of : Report → Labels → List ℕ → ℕ → List ℕ
+end_of Lines labels name n = []
+end_of Matches labels name n = []
+end_of Count labels name n = name_field labels.names name ++ (decimal n ++ 10 ∷ [])
+end_of Name labels name n = if nat_lt 0 n then name ++ 10 ∷ [] else []
+end_of Nothing labels name n = []
 
 -- what is written of a file of this name, where these are the lines of the patterns that are sought
 module _ (s : Sought) where
@@ -62,13 +70,6 @@ module _ (s : Sought) where
     abbrev pub lines_text : List TextLine → List ℕ
     lines_text lines = flat_map part_of_line lines
 
-    -- of a report: each selected line or its matches, or the number of lines, or the name where a line is selected
-    abbrev pub report_text : Report → List TextLine → List ℕ
-    report_text Lines lines = lines_text lines
-    report_text Matches lines = lines_text lines
-    report_text Count lines = name_field task.labels.names name ++ (decimal (selected_count task.inverts lines) ++ 10 ∷ [])
-    report_text Name lines = if has_selected task.inverts lines then name ++ 10 ∷ [] else []
-    report_text Nothing lines = []
-
+    -- of a file: its lines, and what stands behind them
     abbrev pub file_text : List ℕ → List ℕ
-    file_text text = report_text task.report (lines_of task.labels.end text)
+    file_text text = lines_text (lines_of task.labels.end text) ++ end_of task.report task.labels name (selected_count task.inverts (lines_of task.labels.end text))

@@ -15,7 +15,8 @@ use crate::patterns::{lines, text};
 use crate::printing::Labels;
 use crate::search::{Report, Task};
 use crate::searcher::Searcher;
-use daacfind_command::inputs::Inputs;
+use crate::streams::Streams;
+use crate::window::Window;
 use daacfind_command::sink::{Sink, SinkText, write_whole};
 use std::alloc::Global;
 use std::fmt::Write;
@@ -52,9 +53,10 @@ const VERSION: &str = "daacgrep 1.0.0\n";
 const STANDARD_INPUT: &[&str] = &["-"];
 
 /// Runs the command, and returns its status: 0 if a line is selected, 1 if none is, and 2 after
-/// trouble. A file that cannot be read is told of on `err`, and the search goes on with the next.
+/// trouble. A file that cannot be read, or not to its end, is told of on `err`, and the search goes
+/// on with the next.
 /// With `--save` the automaton is written to `saved`, the status is 0, and no file is searched.
-pub fn command<I: Inputs, O: Outputs, S: Sink, E: Sink>(
+pub fn command<I: Streams, O: Outputs, S: Sink, E: Sink>(
     alloc: Global,
     words: &[&str],
     files: &mut I,
@@ -62,7 +64,7 @@ pub fn command<I: Inputs, O: Outputs, S: Sink, E: Sink>(
     out: &mut S,
     err: &mut E,
 ) -> u8
-    ensures { EndsBy (map (λ w. w.now) words.now) (I.given files.old) (S.taken out.old) (S.taken out.new) (S.failures out.old) (S.failures out.new) (O.saved saved.old) (O.saved saved.new) result }
+    ensures { EndsBy (map (λ w. w.now) words.now) (I.Inputs.given files.old) (S.taken out.old) (S.taken out.new) (S.failures out.old) (S.failures out.new) (O.saved saved.old) (O.saved saved.new) result }
 {
     match attempt(alloc, words, files, saved, out, err) {
         Ok(status) => status,
@@ -73,7 +75,7 @@ pub fn command<I: Inputs, O: Outputs, S: Sink, E: Sink>(
     }
 }
 
-fn attempt<'a, I: Inputs, O: Outputs, S: Sink, E: Sink>(
+fn attempt<'a, I: Streams, O: Outputs, S: Sink, E: Sink>(
     alloc: Global,
     words: &[&'a str],
     files: &mut I,
@@ -81,14 +83,14 @@ fn attempt<'a, I: Inputs, O: Outputs, S: Sink, E: Sink>(
     out: &mut S,
     err: &mut E,
 ) -> Result<u8, CommandError<'a>>
-    ensures { EndsBy (map (λ w. w.now) words.now) (I.given files.old) (S.taken out.old) (S.taken out.new) (S.failures out.old) (S.failures out.new) (O.saved saved.old) (O.saved saved.new) (status_of result) }
+    ensures { EndsBy (map (λ w. w.now) words.now) (I.Inputs.given files.old) (S.taken out.old) (S.taken out.new) (S.failures out.old) (S.failures out.new) (O.saved saved.old) (O.saved saved.new) (status_of result) }
 {
     let options = Options::read(alloc, words)?;
     answer(alloc, &options, files, saved, out, err)
 }
 
 // Does what the options ask for.
-fn answer<'a, I: Inputs, O: Outputs, S: Sink, E: Sink>(
+fn answer<'a, I: Streams, O: Outputs, S: Sink, E: Sink>(
     alloc: Global,
     options: &Options<'a, Global>,
     files: &mut I,
@@ -96,7 +98,7 @@ fn answer<'a, I: Inputs, O: Outputs, S: Sink, E: Sink>(
     out: &mut S,
     err: &mut E,
 ) -> Result<u8, CommandError<'a>>
-    ensures { Ends options.now (I.given files.old) (S.taken out.old) (S.taken out.new) (S.failures out.old) (S.failures out.new) (O.saved saved.old) (O.saved saved.new) result }
+    ensures { Ends options.now (I.Inputs.given files.old) (S.taken out.old) (S.taken out.new) (S.failures out.old) (S.failures out.new) (O.saved saved.old) (O.saved saved.new) result }
 {
     if options.has(Flag::Help) {
         return told(USAGE, out);
@@ -111,7 +113,8 @@ fn answer<'a, I: Inputs, O: Outputs, S: Sink, E: Sink>(
         Some(name) => save(alloc, &automaton, name, saved),
         None => {
             let searcher = Searcher::new(alloc, automaton);
-            search(&searcher, &rules, options, files, out, err)
+            let mut window = Window::new(alloc)?;
+            search(&searcher, &rules, options, files, &mut window, out, err)
         }
     }
 }
@@ -127,18 +130,28 @@ fn told<'a, S: Sink>(text: &str, out: &mut S) -> Result<u8, CommandError<'a>>
 }
 
 // Searches the files that the options name, and flushes the sink.
-fn search<'a, I: Inputs, S: Sink, E: Sink>(
+fn search<'a, I: Streams, S: Sink, E: Sink>(
     searcher: &Searcher<Global>,
     rules: &[&[u8]],
     options: &Options<'a, Global>,
     files: &mut I,
+    window: &mut Window,
     out: &mut S,
     err: &mut E,
 ) -> Result<u8, CommandError<'a>>
-    ensures { IsSearched (sought_of searcher.now) (map (λ r. r.now) rules.now) options.now (I.given files.old) (S.taken out.old) (S.taken out.new) (S.failures out.old) (S.failures out.new) result }
+    ensures { IsSearched (sought_of searcher.now) (map (λ r. r.now) rules.now) options.now (I.Inputs.given files.old) (S.taken out.old) (S.taken out.new) (S.failures out.old) (S.failures out.new) result }
 {
     let names = named(options);
-    let outcome = search_files(searcher, rules, task(options), names, files, out, err)?;
+    let outcome = search_files(
+        searcher,
+        rules,
+        task(options),
+        names,
+        files,
+        window,
+        out,
+        err,
+    )?;
     out.flush()?;
     Ok(outcome.status(options.has(Flag::Quiet)))
 }

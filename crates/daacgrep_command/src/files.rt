@@ -4,9 +4,11 @@ ghost use Rattle.std.specs.Prelude.{◌≡◌, ◌∷◌, ◌&&◌, ◌||◌, []
 ghost use Rattle.daacgrep_command.specs.Asked.{AreSearched, both, shown, status_of_outcome};
 ghost use Rattle.daacgrep_command.specs.Sought.{sought_of};
 
-use crate::search::{Task, search_file};
+use crate::reading::search_open;
+use crate::search::Task;
 use crate::searcher::Searcher;
-use daacfind_command::inputs::Inputs;
+use crate::streams::Streams;
+use crate::window::Window;
 use daacfind_command::sink::{Sink, SinkError, SinkText};
 use std::alloc::Allocator;
 use std::fmt::Write;
@@ -16,7 +18,7 @@ use std::fmt::Write;
 pub struct Outcome {
     /// Whether a line is selected.
     pub selected: bool,
-    /// Whether a file could not be read.
+    /// Whether a file could not be read, or not to its end.
     pub trouble: bool,
 }
 
@@ -47,54 +49,59 @@ impl Outcome {
 }
 
 /// Writes what the task asks of each of the files, and returns what came of it. A file that cannot
-/// be read is told of on `err`, and the search goes on with the next.
-pub fn search_files<I: Inputs, S: Sink, E: Sink, A: Allocator>(
+/// be read, or not to its end, is told of on `err`, and the search goes on with the next.
+pub fn search_files<I: Streams, S: Sink, E: Sink, A: Allocator>(
     searcher: &Searcher<A>,
     rules: &[&[u8]],
     task: Task,
     names: &[&str],
     files: &mut I,
+    window: &mut Window,
     out: &mut S,
     err: &mut E,
 ) -> Result<Outcome, SinkError>
-    ensures { AreSearched (sought_of searcher.now) (map (λ r. r.now) rules.now) task (I.given files.old) (map (λ n. n.now) names.now) (S.taken out.old) (S.taken out.new) (S.failures out.old) (S.failures out.new) result }
+    ensures { AreSearched (sought_of searcher.now) (map (λ r. r.now) rules.now) task (I.Inputs.given files.old) (map (λ n. n.now) names.now) (S.taken out.old) (S.taken out.new) (S.failures out.old) (S.failures out.new) result }
 {
     let mut outcome = Outcome {
         selected: false,
         trouble: false,
     };
     for name in names {
-        let found = search_named(searcher, rules, task, name, files, out, err)?;
+        let found = search_named(searcher, rules, task, name, files, window, out, err)?;
         outcome = outcome.and(found);
     }
     Ok(outcome)
 }
 
-fn search_named<I: Inputs, S: Sink, E: Sink, A: Allocator>(
+fn search_named<I: Streams, S: Sink, E: Sink, A: Allocator>(
     searcher: &Searcher<A>,
     rules: &[&[u8]],
     task: Task,
     name: &str,
     files: &mut I,
+    window: &mut Window,
     out: &mut S,
     err: &mut E,
 ) -> Result<Outcome, SinkError>
-    ensures given { I.given files.new ≡ I.given files.old }
-    ensures searched { AreSearched (sought_of searcher.now) (map (λ r. r.now) rules.now) task (I.given files.old) (name.now ∷ []) (S.taken out.old) (S.taken out.new) (S.failures out.old) (S.failures out.new) result }
+    ensures given { I.Inputs.given files.new ≡ I.Inputs.given files.old }
+    ensures searched { AreSearched (sought_of searcher.now) (map (λ r. r.now) rules.now) task (I.Inputs.given files.old) (name.now ∷ []) (S.taken out.old) (S.taken out.new) (S.failures out.old) (S.failures out.new) result }
 {
-    match files.read(name) {
-        Some(text) => Ok(Outcome {
-            selected: search_file(searcher, rules, task, shown(name), &text, out)?,
-            trouble: false,
-        }),
-        None => {
-            let _ = writeln!(SinkText { sink: err }, "daacgrep: cannot read {name}");
-            Ok(Outcome {
-                selected: false,
-                trouble: true,
-            })
-        }
+    if !files.open(name) {
+        tell_unread(name, err);
+        return Ok(Outcome {
+            selected: false,
+            trouble: true,
+        });
     }
+    let outcome = search_open(searcher, rules, task, shown(name), files, window, out)?;
+    if outcome.trouble {
+        tell_unread(name, err);
+    }
+    Ok(outcome)
+}
+
+fn tell_unread<E: Sink>(name: &str, err: &mut E) {
+    let _ = writeln!(SinkText { sink: err }, "daacgrep: cannot read {name}");
 }
 
 // The name of a file as it is printed.

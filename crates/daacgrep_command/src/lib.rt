@@ -1,6 +1,7 @@
 //! The command of the program `daacgrep`: prints the lines of files in which a pattern occurs.
 #![tactic(auto)]
 
+pub mod ahead;
 pub mod automaton;
 pub mod clash;
 pub mod command;
@@ -14,6 +15,10 @@ pub mod outputs;
 pub mod patterns;
 pub mod printing;
 pub mod program;
+pub mod reading;
 pub mod rule;
 pub mod search;
 pub mod searcher;
+pub mod selected_lines;
+pub mod streams;
+pub mod window;

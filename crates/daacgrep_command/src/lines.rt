@@ -1,6 +1,6 @@
 //! The lines of a text.
 
-ghost use Rattle.std.specs.Prelude.{◌≡◌, ◌<◌, ◌≤◌, ◌==◌, ◌+◌, ◌⊎◌, IfSome, length, position};
+ghost use Rattle.std.specs.Prelude.{◌≡◌, ◌<◌, ◌≤◌, ◌==◌, ◌+◌, ◌-◌, ◌⊎◌, IfSome, count_by, length, position, slice_index};
 ghost use Rattle.std.specs.List.{position_or_len};
 ghost use Rattle.daacgrep_command.specs.Lines.{lines_of};
 
@@ -88,4 +88,28 @@ fn mark_place(mark: u8, text: &[u8]) -> Option<usize>
     ensures within { IfSome result (λ place. place < length text.now) }
 {
     text.iter().position(|byte| *byte == mark)
+}
+
+/// Returns the place behind the last mark, or 0 if there is none.
+pub fn behind_last(mark: u8, text: &[u8]) -> usize
+    ensures within { result ≤ length text.now }
+    ensures behind { (result ≡ 0) ⊎ ((0 < result) × (slice_index text.now (result - 1) ≡ mark)) }
+{
+    match text.iter().rposition(|byte| *byte == mark) {
+        Some(place) => place + 1,
+        None => 0,
+    }
+}
+
+/// Returns how many marks there are.
+pub fn count_marks(mark: u8, text: &[u8]) -> usize
+    ensures { result ≡ count_by (λ b. b == mark) text.now }
+{
+    let mut count = 0usize;
+    for byte in text {
+        if *byte == mark {
+            count += 1;
+        }
+    }
+    count
 }

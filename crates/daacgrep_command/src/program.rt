@@ -2,10 +2,12 @@
 
 use crate::command::command;
 use crate::outputs::Outputs;
+use crate::streams::{ReadError, Streams};
 use daacfind_command::inputs::Inputs;
 use daacfind_command::sink::{SinkError, WriterSink};
 use std::alloc::Global;
-use std::io::{self, BufWriter, Read, Write};
+use std::fs::File;
+use std::io::{self, BufWriter, ErrorKind, Read, Write};
 use std::process::ExitCode;
 use std::rt::{Env, Files};
 use std::{env, fs};
@@ -14,7 +16,18 @@ use std::{env, fs};
 #[derive(Drop)]
 pub struct SystemInputs<'a, R: Files + Input + AllocGlobal> {
     rt: &'a R,
+    // What is read piece by piece.
+    opened: Option<Opened<R::File, R::Reader>>,
 }
+
+#[derive(Drop)]
+enum Opened<F, I> {
+    File(F),
+    Input(I),
+}
+
+// How often a read that was interrupted is tried again.
+const TRIES: u32 = 1000;
 
 impl<R: Files + Input + AllocGlobal> Inputs for SystemInputs<'_, R> {
     ghost use Rattle.std.specs.Prelude.{None};
@@ -30,6 +43,41 @@ impl<R: Files + Input + AllocGlobal> Inputs for SystemInputs<'_, R> {
         } else {
             fs::read(self.rt, name).ok()
         }
+    }
+}
+
+impl<R: Files + Input + AllocGlobal> Streams for SystemInputs<'_, R> {
+    ghost use Rattle.std.specs.Prelude.{None};
+
+    // No contract can say what a file has.
+    ghost left = { λ _. None };
+
+    fn open(&mut self, name: &str) -> bool {
+        self.opened = if name == "-" {
+            Some(Opened::Input(self.rt.reader()))
+        } else {
+            match File::open(self.rt, name) {
+                Ok(file) => Some(Opened::File(file)),
+                Err(_) => None,
+            }
+        };
+        self.opened.is_some()
+    }
+
+    fn read_next(&mut self, buffer: &mut [u8]) -> Result<usize, ReadError> {
+        for _try in 0..TRIES {
+            let read = match &mut self.opened {
+                Some(Opened::File(file)) => file.read(buffer),
+                Some(Opened::Input(input)) => input.read(buffer),
+                None => return Err(ReadError),
+            };
+            match read {
+                Ok(count) => return Ok(count),
+                Err(error) if error.kind() == ErrorKind::Interrupted => {}
+                Err(_) => return Err(ReadError),
+            }
+        }
+        Err(ReadError)
     }
 }
 
@@ -79,7 +127,7 @@ fn status(rt: &HostRuntime) -> io::Result<u8> {
     Ok(command(
         rt.alloc(),
         &words,
-        &mut SystemInputs { rt },
+        &mut SystemInputs { rt, opened: None },
         &mut SystemOutputs { rt },
         &mut WriterSink::new(out),
         &mut WriterSink::new(rt.stderr()),

@@ -1,18 +1,18 @@
 //! The search of one file.
 
-ghost use Rattle.std.specs.Prelude.{◌≡◌, ◌≤◌, [], ◌∷◌, ◌++◌, if◌then◌else◌, ◌+◌, IfOk, decimal, length, map, slice_range};
+ghost use Rattle.std.specs.Prelude.{◌≡◌, ◌≤◌, [], if◌then◌else◌, ◌+◌, IfOk, length, map, slice_range};
 ghost use Rattle.daacfind_command.specs.Runs.{IsWritten};
-ghost use Rattle.daacgrep_command.specs.Lines.{lines_of, seen};
+ghost use Rattle.daacgrep_command.specs.Lines.{lines_from, pieces_of, seen};
 ghost use Rattle.daacgrep_command.specs.Rules.{first_value, match_value};
-ghost use Rattle.daacgrep_command.specs.Fields.{entry, name_field};
-ghost use Rattle.daacgrep_command.specs.Printed.{file_text, has_selected, is_selected, line_text, lines_text, match_text, matches_text, part_of_line, selected_count};
+ghost use Rattle.daacgrep_command.specs.Fields.{entry};
+ghost use Rattle.daacgrep_command.specs.Printed.{end_of, line_text, lines_text, match_text, matches_text, selected_count};
 ghost use Rattle.daacgrep_command.specs.Sought.{matches_in, sought_of};
 
-use crate::line::Line;
-use crate::lines::Lines;
+use crate::line::{Line, Part};
 use crate::printing::{Labels, write_count, write_entry, write_marked};
 use crate::rule::match_value;
 use crate::searcher::Searcher;
+use crate::selected_lines::SelectedLines;
 use daacfind_command::sink::{Sink, SinkError};
 use daachorse::Match;
 use std::alloc::Allocator;
@@ -43,138 +43,45 @@ pub struct Task {
     pub labels: Labels,
 }
 
-/// Writes what the task asks of a file, and returns whether a line is selected.
-pub fn search_file<S: Sink, A: Allocator>(
+/// Writes each selected line of a part, or its matches, if that is asked, and returns how many
+/// lines are selected.
+pub fn write_selected<S: Sink, A: Allocator>(
     searcher: &Searcher<A>,
     rules: &[&[u8]],
     task: Task,
     name: &str,
-    text: &[u8],
+    part: Part,
     out: &mut S,
-) -> Result<bool, SinkError>
+) -> Result<usize, SinkError>
     ensures written { IsWritten (S.taken out.old) (S.taken out.new) (S.failures out.old) (S.failures out.new) result
-        (file_text (sought_of searcher.now) (map (λ r. r.now) rules.now) task name.now text.now) }
-    ensures selected { IfOk result (λ b. b ≡ has_selected (sought_of searcher.now) task.inverts (lines_of task.labels.end text.now)) }
+        (lines_text (sought_of searcher.now) (map (λ r. r.now) rules.now) task name.now (lines_from part.entry.before part.entry.start (pieces_of task.labels.end part.entry.bytes.now))) }
+    ensures selected { IfOk result (λ n. n ≡ selected_count (sought_of searcher.now) task.inverts (lines_from part.entry.before part.entry.start (pieces_of task.labels.end part.entry.bytes.now))) }
+    ensures few { IfOk result (λ n. n ≤ length part.entry.bytes.now) }
+{
+    let labels = task.labels;
+    let mut count = 0usize;
+    for line in SelectedLines::new(searcher, task.inverts, labels.numbers, labels.end, part) {
+        write_line(searcher, rules, task, name, line, out)?;
+        count += 1;
+    }
+    Ok(count)
+}
+
+/// Writes what stands behind the lines of a file: the number of the selected ones, or the name if
+/// there is one, if that is asked.
+pub fn write_end<S: Sink>(
+    task: Task,
+    name: &str,
+    count: usize,
+    out: &mut S,
+) -> Result<(), SinkError>
+    ensures { IsWritten (S.taken out.old) (S.taken out.new) (S.failures out.old) (S.failures out.new) result (end_of task.report task.labels name.now count) }
 {
     match task.report {
-        Report::Lines | Report::Matches => write_selected(searcher, rules, task, name, text, out),
-        Report::Count => write_selected_count(searcher, task, name, text, out),
-        Report::Name => write_selected_name(
-            searcher,
-            task.inverts,
-            task.labels.end,
-            name,
-            text,
-            out,
-        ),
-        Report::Nothing => Ok(any_selected(searcher, task.inverts, task.labels.end, text)),
+        Report::Count => write_count(task.labels.names, name, count, out),
+        Report::Name if count > 0 => write_marked(name.as_bytes(), b'\n', out),
+        Report::Name | Report::Lines | Report::Matches | Report::Nothing => Ok(()),
     }
-}
-
-fn write_selected_count<S: Sink, A: Allocator>(
-    searcher: &Searcher<A>,
-    task: Task,
-    name: &str,
-    text: &[u8],
-    out: &mut S,
-) -> Result<bool, SinkError>
-    ensures written { IsWritten (S.taken out.old) (S.taken out.new) (S.failures out.old) (S.failures out.new) result
-        (name_field task.labels.names name.now ++ (decimal (selected_count (sought_of searcher.now) task.inverts (lines_of task.labels.end text.now)) ++ 10 ∷ [])) }
-    ensures selected { IfOk result (λ b. b ≡ has_selected (sought_of searcher.now) task.inverts (lines_of task.labels.end text.now)) }
-{
-    let count = count_selected(searcher, task.inverts, task.labels.end, text);
-    write_count(task.labels.names, name, count, out)?;
-    Ok(count > 0)
-}
-
-fn write_selected_name<S: Sink, A: Allocator>(
-    searcher: &Searcher<A>,
-    inverts: bool,
-    mark: u8,
-    name: &str,
-    text: &[u8],
-    out: &mut S,
-) -> Result<bool, SinkError>
-    ensures written { IsWritten (S.taken out.old) (S.taken out.new) (S.failures out.old) (S.failures out.new) result
-        (if has_selected (sought_of searcher.now) inverts (lines_of mark text.now) then name.now ++ 10 ∷ [] else []) }
-    ensures selected { IfOk result (λ b. b ≡ has_selected (sought_of searcher.now) inverts (lines_of mark text.now)) }
-{
-    if !any_selected(searcher, inverts, mark, text) {
-        return Ok(false);
-    }
-    write_marked(name.as_bytes(), b'\n', out)?;
-    Ok(true)
-}
-
-// How many lines are selected.
-fn count_selected<A: Allocator>(
-    searcher: &Searcher<A>,
-    inverts: bool,
-    mark: u8,
-    text: &[u8],
-) -> usize
-    ensures { result ≡ selected_count (sought_of searcher.now) inverts (lines_of mark text.now) }
-{
-    let mut count = 0usize;
-    for line in Lines::new(text, mark) {
-        if searcher.selects(inverts, line.bytes) {
-            count += 1;
-        }
-    }
-    count
-}
-
-// Whether a line is selected.
-fn any_selected<A: Allocator>(searcher: &Searcher<A>, inverts: bool, mark: u8, text: &[u8]) -> bool
-    ensures { result ≡ has_selected (sought_of searcher.now) inverts (lines_of mark text.now) }
-{
-    for line in Lines::new(text, mark) {
-        if searcher.selects(inverts, line.bytes) {
-            return true;
-        }
-    }
-    false
-}
-
-// Writes each selected line, or its matches, and returns whether there is one.
-fn write_selected<S: Sink, A: Allocator>(
-    searcher: &Searcher<A>,
-    rules: &[&[u8]],
-    task: Task,
-    name: &str,
-    text: &[u8],
-    out: &mut S,
-) -> Result<bool, SinkError>
-    ensures written { IsWritten (S.taken out.old) (S.taken out.new) (S.failures out.old) (S.failures out.new) result
-        (lines_text (sought_of searcher.now) (map (λ r. r.now) rules.now) task name.now (lines_of task.labels.end text.now)) }
-    ensures selected { IfOk result (λ b. b ≡ has_selected (sought_of searcher.now) task.inverts (lines_of task.labels.end text.now)) }
-{
-    let mut any = false;
-    for line in Lines::new(text, task.labels.end) {
-        let is_selected = write_if_selected(searcher, rules, task, name, line, out)?;
-        any = any | is_selected;
-    }
-    Ok(any)
-}
-
-// Writes a line, if it is selected, and returns whether it is.
-fn write_if_selected<S: Sink, A: Allocator>(
-    searcher: &Searcher<A>,
-    rules: &[&[u8]],
-    task: Task,
-    name: &str,
-    line: Line,
-    out: &mut S,
-) -> Result<bool, SinkError>
-    ensures written { IsWritten (S.taken out.old) (S.taken out.new) (S.failures out.old) (S.failures out.new) result
-        (part_of_line (sought_of searcher.now) (map (λ r. r.now) rules.now) task name.now (seen line.entry)) }
-    ensures selected { IfOk result (λ b. b ≡ is_selected (sought_of searcher.now) task.inverts line.entry.bytes.now) }
-{
-    if !searcher.selects(task.inverts, line.bytes) {
-        return Ok(false);
-    }
-    write_line(searcher, rules, task, name, line, out)?;
-    Ok(true)
 }
 
 fn write_line<S: Sink, A: Allocator>(

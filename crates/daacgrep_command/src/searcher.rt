@@ -1,7 +1,7 @@
 //! The search for patterns in a line.
 
 ghost use Rattle.std.specs.Prelude.{◌≡◌};
-ghost use Rattle.daacgrep_command.specs.Printed.{is_selected, occurs};
+ghost use Rattle.daacgrep_command.specs.Printed.{occurs};
 ghost use Rattle.daacgrep_command.specs.Sought.{matches_in, sought_of};
 
 use daachorse::bytewise::Accelerated;
@@ -62,15 +62,6 @@ impl<A: Allocator> Searcher<A> {
             Kept::Plain(automaton) => automaton.is_match(line),
             Kept::Rows(searcher) => searcher.is_match(line),
         }
-    }
-
-    /// Returns whether the line is selected: it has a match, or with `inverts` none.
-    #[inline]
-    pub fn selects(&self, inverts: bool, line: &[u8]) -> bool
-        ensures { result ≡ is_selected (sought_of self.now) inverts line.now }
-    {
-        let is_match = self.is_match(line);
-        if inverts { !is_match } else { is_match }
     }
 
     /// The matches in the line: all of them, or the leftmost ones, as the automaton's kind says.

@@ -7,6 +7,7 @@ use daacfind_command::inputs::Inputs;
 use daacfind_command::sink::{SinkError, WriterSink};
 use daacgrep_command::command::command;
 use daacgrep_command::outputs::Outputs;
+use daacgrep_command::streams::{ReadError, Streams};
 use std::alloc::Global;
 use std::io::{self, Write};
 
@@ -15,6 +16,9 @@ use std::io::{self, Write};
 struct Memory<'a> {
     alloc: Global,
     automaton: &'a [u8],
+    // What is left of the file that is open, and whether an error stands behind it.
+    opened: Vec<u8>,
+    is_torn: bool,
 }
 
 impl Inputs for Memory<'_> {
@@ -30,8 +34,35 @@ impl Inputs for Memory<'_> {
             "records" => Vec::from_slice(self.alloc, b"a b\nab\0fine\0ab").ok(),
             "empty" => Some(Vec::new(self.alloc)),
             "automaton" => Vec::from_slice(self.alloc, self.automaton).ok(),
+            "torn" => Vec::from_slice(self.alloc, b"an error\nfine\nab").ok(),
             _ => None,
         }
+    }
+}
+
+impl Streams for Memory<'_> {
+    ghost left = { λ _. None };
+
+    fn open(&mut self, name: &str) -> bool {
+        let Some(bytes) = self.read(name) else {
+            return false;
+        };
+        self.opened = bytes;
+        self.is_torn = name == "torn";
+        true
+    }
+
+    // Three bytes at a time, so that lines go over pieces.
+    fn read_next(&mut self, buffer: &mut [u8]) -> Result<usize, ReadError> {
+        let count = self.opened.len().min(buffer.len()).min(3);
+        if count == 0 && self.is_torn {
+            return Err(ReadError);
+        }
+        buffer[..count].copy_from_slice(&self.opened[..count]);
+        let len = self.opened.len();
+        self.opened.copy_within(count..len, 0);
+        self.opened.truncate(len - count);
+        Ok(count)
     }
 }
 
@@ -319,6 +350,13 @@ const ROWS: &[Row] = &[
         told: "",
     },
     Row {
+        shows: "a file that cannot be read to its end",
+        words: &["-n", "-f", "words", "torn", "log"],
+        status: 2,
+        written: "torn:1:an error\ntorn:3:ab\nlog:1:an error\nlog:3:abab\n",
+        told: "daacgrep: cannot read torn\n",
+    },
+    Row {
         shows: "several files",
         words: &["-f", "words", "log", "log"],
         status: 0,
@@ -455,7 +493,12 @@ const ROWS: &[Row] = &[
 
 // Whether the command ends as the row says, with this automaton as a file.
 fn ends_so(alloc: Global, automaton: &[u8], row: &Row) -> bool {
-    let mut files = Memory { alloc, automaton };
+    let mut files = Memory {
+        alloc,
+        automaton,
+        opened: Vec::new(alloc),
+        is_torn: false,
+    };
     let mut saved = Store {
         alloc,
         bytes: Vec::new(alloc),
@@ -626,6 +669,8 @@ fn loads_so(alloc: Global, row: &LoadRow) -> bool {
     let mut files = Memory {
         alloc,
         automaton: b"",
+        opened: Vec::new(alloc),
+        is_torn: false,
     };
     let mut saved = Store {
         alloc,
@@ -658,6 +703,8 @@ fn halts_so(alloc: Global, left: usize) -> bool {
     let mut files = Memory {
         alloc,
         automaton: b"",
+        opened: Vec::new(alloc),
+        is_torn: false,
     };
     let mut saved = Store {
         alloc,

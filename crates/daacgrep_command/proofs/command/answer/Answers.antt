@@ -33,6 +33,11 @@ returns-in_err-automaton g c =
     let p = err_from_is_err_and c.from_residual-in_err-automaton.result c.from_residual-in_err-automaton.ensures.1 in
     rw p.1 (inl (Keeps-refl _, refl, refl))
 
+pub returns-in_err-window-in-None : goal.returns-in_err-window-in-None
+returns-in_err-window-in-None g c =
+    let p = err_from_is_err_and c.from_residual-in_err-window-in-None.result c.from_residual-in_err-window-in-None.ensures.1 in
+    rw p.1 (inl (Keeps-refl _, refl, refl))
+
 pub returns-in-Some : goal.returns-in-Some
 returns-in-Some g c =
     let o = c.args.options.now in

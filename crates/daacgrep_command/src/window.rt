@@ -1,0 +1,104 @@
+//! A part of a file that is read piece by piece.
+
+ghost use Rattle.std.specs.Prelude.{◌≡◌, ◌+◌, ◌<◌, ◌≤◌, ◌^◌, [], ℕ, IfOk, List, OnErr, drop, length};
+ghost use Rattle.std.specs.Io.KnownBytes.{Consumes};
+ghost use Rattle.daacgrep_command.specs.Windows.{IsReadOn};
+
+use crate::streams::{ReadError, Streams};
+use std::alloc::{AllocError, Global};
+use std::marker::Model;
+
+// How many bytes are read at a time.
+const PIECE: usize = 65536;
+
+/// What is held of a file: bytes that were read and not yet passed over.
+#[derive(Drop)]
+pub struct Window {
+    piece: Vec<u8>,
+    held: Vec<u8>,
+    // The place in the file where the held bytes begin.
+    start: usize,
+}
+
+impl Model for Window {
+    ghost use Rattle.std.specs.Prelude.{◌+◌, ◌<◌, ◌^◌, length};
+    ghost use Rattle.daacgrep_command.specs.Windows.{Held};
+
+    ghost Value = { Held };
+
+    ghost view = { λ s. record { start = s.start; bytes = s.held.items } };
+
+    ghost invariant = { λ s. (0 < length s.piece.items) × (s.start + length s.held.items < 2 ^ 64) };
+}
+
+impl Window {
+    /// A window that holds nothing.
+    pub fn new(alloc: Global) -> Result<Window, AllocError> {
+        Ok(Window {
+            piece: Vec::from_elem(alloc, 0u8, PIECE)?,
+            held: Vec::new(alloc),
+            start: 0,
+        })
+    }
+
+    /// Begins at the front of a file.
+    pub fn begin(&mut self)
+        ensures start { self.new.start ≡ 0 }
+        ensures bytes { self.new.bytes ≡ [] }
+    {
+        self.held.clear();
+        self.start = 0;
+    }
+
+    /// Returns the bytes that are held.
+    #[inline]
+    pub fn bytes(&self) -> &[u8]
+        ensures { result.now ≡ self.now.bytes }
+    {
+        &self.held
+    }
+
+    /// Returns the place in the file where the held bytes begin.
+    #[inline]
+    pub fn start(&self) -> usize
+        ensures start { result ≡ self.now.start }
+        ensures within { result + length self.now.bytes < 2 ^ 64 }
+    {
+        self.start
+    }
+
+    /// Reads on, and returns how many bytes more are held: 0 at the end.
+    ///
+    /// # Errors
+    ///
+    /// An error of the file, a failed allocation, or a place that is too great.
+    pub fn read_on<I: Streams>(&mut self, files: &mut I) -> Result<usize, ReadError>
+        ensures same { I.Inputs.given files.new ≡ I.Inputs.given files.old }
+        ensures start { self.new.start ≡ self.old.start }
+        ensures ok { IfOk result (λ n. IsReadOn (I.left files.old) (I.left files.new) self.old.bytes self.new.bytes n) }
+        ensures kept { OnErr result (self.new.bytes ≡ self.old.bytes) }
+        ensures lost { OnErr result ((lost : List ℕ) × Consumes (I.left files.old) (I.left files.new) lost) }
+    {
+        let count = files.read_next(&mut self.piece)?;
+        let len = self.held.len() + count;
+        if self.start.checked_add(len).is_none() {
+            return Err(ReadError);
+        }
+        match self.held.extend_from_slice(&self.piece[..count]) {
+            Ok(()) => Ok(count),
+            Err(AllocError) => Err(ReadError),
+        }
+    }
+
+    /// Passes over the first bytes that are held.
+    pub fn pass(&mut self, count: usize)
+        requires { count ≤ length self.old.bytes }
+        ensures start { self.new.start ≡ self.old.start + count }
+        ensures bytes { self.new.bytes ≡ drop count self.old.bytes }
+    {
+        let len = self.held.len();
+        self.held.copy_within(count..len, 0);
+        self.held.truncate(len - count);
+        self.start += count;
+    }
+}

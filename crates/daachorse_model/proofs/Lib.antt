@@ -31,3 +31,5 @@ pub mod TextOrder
 pub mod FoldLaws
 pub mod AsRead
 pub mod Certain
+pub mod Shifts
+pub mod CutHaystacks

@@ -1,9 +1,11 @@
 -- What the lists of matches promise, in the words of the subject.
-use Rattle.std.specs.Prelude.{◌≡◌, ◌≢◌, ℕ, Bool, ◌+◌, ◌≤◌, List, [], ◌∷◌, ◌++◌, length, Contains, ⊤, Some, find, slice_get}
+use Rattle.std.specs.Prelude.{◌≡◌, ◌≢◌, ℕ, Bool, ◌+◌, ◌≤◌, List, [], ◌∷◌, ◌++◌, length, Contains, ⊤, Some, find, map, slice_get}
 use Rattle.daachorse_model.specs.declared.Match.{Match}
 use Rattle.daachorse_model.specs.Units.{size}
 use Rattle.daachorse_model.specs.Folding.{as_read}
 use Rattle.daachorse_model.specs.Dictionary.{Dictionary, is_prefix}
+use Rattle.daachorse_model.specs.Matches.{shifted}
+use Rattle.daachorse_model.specs.Prefixes.{IsKey}
 
 -- the haystack has a key where the match says, and the match has one of its values
 pub record IsOccurrence {V : Type 0} (width : ℕ → ℕ) (K : Dictionary V) (h : List ℕ) (m : Match V) : Type 0 where
@@ -56,3 +58,11 @@ pub record IsEarliestAtStart {V : Type 0} (width : ℕ → ℕ) (registrations :
   pub starts : m.start ≡ size width before
   pub earliest : find (λ r. is_prefix r.0 rest) registrations ≡ Some (key, m.value)
   pub ends : m.end ≡ m.start + size width key
+
+-- the unit stands in no key
+abbrev pub IsUnused : {V : Type 0} → Dictionary V → ℕ → Type 0
+IsUnused K u = (k : List ℕ) → IsKey K k → ¬ Contains k u
+
+-- the unit cuts each haystack: what is found is what is found before it, and then what is found behind it, shifted to where that begins
+abbrev pub IsCutBy : {V : Type 0} → (ℕ → ℕ) → (List ℕ → List (Match V)) → ℕ → Type 0
+IsCutBy width found u = (front back : List ℕ) → found (front ++ u ∷ back) ≡ found front ++ map (shifted (size width (front ++ u ∷ []))) (found back)

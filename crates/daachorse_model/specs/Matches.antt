@@ -18,6 +18,10 @@ abbrev pub last_end : {V : Type 0} → ℕ → List (Match V) → ℕ
 last_end r [] = r
 last_end r (m ∷ ms) = last_end m.end ms
 
+-- the same match, so many bytes further on
+abbrev pub shifted : {V : Type 0} → ℕ → Match V → Match V
+shifted bytes m = record { start = bytes + m.start; end = bytes + m.end; value = m.value }
+
 module _ {V : Type 0} (width : ℕ → ℕ) (K : Dictionary V) where
   -- the matches that start at s or later and end at e, where the haystack has w from s to e: the longest key first
   abbrev pub ending_at : ℕ → ℕ → List ℕ → List (Match V)

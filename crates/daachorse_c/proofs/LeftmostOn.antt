@@ -1,7 +1,6 @@
 -- Where a leftmost search goes on behind a match, and what it finds that begins there.
-use Rattle.std.proofs.Common.{◌≡◌, ℕ, zero, suc, ◌+◌, ◌<◌, ◌≤◌, Bool, true, false, List, [], ◌∷◌, ◌++◌, map, drop, length, Option, Some, None, refl, sym, ap, ◌∙◌, length-append, arith}
+use Rattle.std.proofs.Common.{◌≡◌, ℕ, suc, ◌+◌, ◌<◌, ◌≤◌, Bool, true, false, List, [], ◌∷◌, ◌++◌, drop, length, Option, Some, None, refl, sym, ap, ◌∙◌, length-append, arith}
 use Rattle.std.specs.Prelude.{option_map, slice_get}
-use Rattle.std.proofs.lemmas.List.{map-append}
 use Rattle.daachorse_model.specs.declared.Match.{Match}
 use Rattle.daachorse_model.specs.Units.{byte_width, size}
 use Rattle.daachorse_model.specs.Dictionary.{Dictionary}
@@ -10,7 +9,6 @@ use Rattle.daachorse_model.proofs.Lists.{none_either}
 use Rattle.daachorse_model.proofs.Overlap.{Begins, longest_key-begins}
 use Rattle.daachorse_model.proofs.Searches.{key_with_value-none, leftmost_from-skip}
 use Rattle.daachorse_model.proofs.Suffixes.{size-bytes}
-use Rattle.daachorse_search.specs.Afresh.{shifted}
 use Rattle.daachorse_c.proofs.Heads.{heads, no_match, tails}
 
 no_key : {V : Type 0} (t : List ℕ) (vs : List V) → option_map {U = List ℕ × V} (λ v. (t, v)) (slice_get vs 0) ≡ None → vs ≡ []
@@ -36,30 +34,6 @@ module _ {V : Type 0} (K : Dictionary V) where
   -- what is found at s, and then behind it
   abbrev here : ℕ → Bool → List ℕ → Option (List ℕ × V) → List (Match V)
   here s after w best = match_at byte_width s after best ++ leftmost_from byte_width K (s + 1) (units_to_skip best) (is_after after best) w
-
-  -- ---- further on
-
-  match_shifted : (b s : ℕ) (after : Bool) (best : Option (List ℕ × V)) → match_at byte_width (b + s) after best ≡ map (shifted b) (match_at byte_width s after best)
-  match_shifted b s after None = refl
-  match_shifted b s true (Some ([], v)) = refl
-  match_shifted b s false (Some ([], v)) = refl
-  match_shifted b s after (Some (c ∷ p, v)) =
-      let far : (b + s) + size byte_width (c ∷ p) ≡ b + (s + size byte_width (c ∷ p)) = omega arith in
-      ap (λ n. record { start = b + s; end = n; value = v } ∷ []) far
-
-  pub leftmost-shifted : (b s k : ℕ) (after : Bool) (w : List ℕ) → leftmost_from byte_width K (b + s) k after w ≡ map (shifted b) (leftmost_from byte_width K s k after w)
-  leftmost-shifted b s (suc k) after [] = refl
-  leftmost-shifted b s (suc k) after (u ∷ w) =
-      let far : (b + s) + 1 ≡ b + (s + 1) = omega arith in
-      ap (λ n. leftmost_from byte_width K n k after w) far ∙ leftmost-shifted b (s + 1) k after w
-  leftmost-shifted b s zero after [] = match_shifted b s after (longest_key K [] [])
-  leftmost-shifted b s zero after (u ∷ w) =
-      let best = longest_key K [] (u ∷ w) in
-      let far : (b + s) + 1 ≡ b + (s + 1) = omega arith in
-      ap (λ l. l ++ leftmost_from byte_width K ((b + s) + 1) (units_to_skip best) (is_after after best) w) (match_shifted b s after best)
-      ∙ ap (λ n. map (shifted b) (match_at byte_width s after best) ++ leftmost_from byte_width K n (units_to_skip best) (is_after after best) w) far
-      ∙ ap (λ l. map (shifted b) (match_at byte_width s after best) ++ l) (leftmost-shifted b (s + 1) (units_to_skip best) (is_after after best) w)
-      ∙ sym (map-append (shifted b) (match_at byte_width s after best) (leftmost_from byte_width K (s + 1) (units_to_skip best) (is_after after best) w))
 
   -- ---- behind a match
 

@@ -9,15 +9,15 @@ use Rattle.daachorse_model.specs.declared.MatchKind.TheVariants.{Standard, Leftm
 use Rattle.daachorse_model.specs.Dictionary.{Dictionary}
 use Rattle.daachorse_model.specs.Folding.{as_read, folded_unit}
 use Rattle.daachorse_model.specs.Leftmost.{leftmost_from}
-use Rattle.daachorse_model.specs.Matches.{standard}
+use Rattle.daachorse_model.specs.Matches.{standard, shifted}
 use Rattle.daachorse_model.specs.Units.{byte_width}
+use Rattle.daachorse_model.proofs.Shifts.{leftmost_from-shifted}
 use Rattle.daachorse_bytewise.specs.ByKind.{non_overlapping}
-use Rattle.daachorse_search.specs.Afresh.{shifted}
 use Rattle.daachorse_c.specs.declared.place.Place.{Place}
 use Rattle.daachorse_c.specs.Places.{StandsBehind, afresh, found_from, left_at}
 use Rattle.daachorse_search.proofs.AfreshLaws.{shifted-none, shifted-twice}
 use Rattle.daachorse_c.proofs.Heads.{no_match}
-use Rattle.daachorse_c.proofs.LeftmostOn.{IsAfter, after_nonempty, behind, leftmost-shifted}
+use Rattle.daachorse_c.proofs.LeftmostOn.{IsAfter, after_nonempty, behind}
 use Rattle.daachorse_c.proofs.StandardOn.{follows_first}
 
 -- the first of a list is there, or the list is empty
@@ -49,8 +49,8 @@ module _ (K : Dictionary ℕ) where
   -- what is found from a place on is what is found that begins there, so much further on
   from_place : (kind : MatchKind) (at : ℕ) (w : List ℕ) → found_from kind K at false w ≡ map (shifted at) (non_overlapping kind byte_width K w)
   from_place Standard at w = refl
-  from_place LeftmostLongest at w = ap (λ n. leftmost_from byte_width K n 0 false w) (sym (add-zero at)) ∙ leftmost-shifted K at 0 0 false w
-  from_place LeftmostFirst at w = ap (λ n. leftmost_from byte_width K n 0 false w) (sym (add-zero at)) ∙ leftmost-shifted K at 0 0 false w
+  from_place LeftmostLongest at w = ap (λ n. leftmost_from byte_width K n 0 false w) (sym (add-zero at)) ∙ leftmost_from-shifted byte_width K at 0 0 false w
+  from_place LeftmostFirst at w = ap (λ n. leftmost_from byte_width K n 0 false w) (sym (add-zero at)) ∙ leftmost_from-shifted byte_width K at 0 0 false w
 
   -- m was found first in w, which begins at the place, and then these: what follows it
   pub record Continues (kind : MatchKind) (at : ℕ) (w : List ℕ) (m : Match ℕ) (ms : List (Match ℕ)) : Type 0 where

@@ -1,19 +1,14 @@
 -- Where the standard search goes on behind a match: as one that begins there, further on.
 use Rattle.std.proofs.Common.{◌≡◌, ℕ, suc, ◌+◌, ◌<◌, ◌≤◌, List, [], ◌∷◌, ◌++◌, map, take, drop, length, refl, sym, ap, ◌∙◌, add_assoc, length-append, arith}
-use Rattle.std.proofs.lemmas.List.{map-append}
 use Rattle.daachorse_model.specs.declared.Match.{Match}
 use Rattle.daachorse_model.specs.Dictionary.{Dictionary}
-use Rattle.daachorse_model.specs.Matches.{at_each_end, empty_matches, ending_at, matches_of, standard, standard_from}
+use Rattle.daachorse_model.specs.Matches.{at_each_end, empty_matches, ending_at, matches_of, standard, standard_from, shifted}
 use Rattle.daachorse_model.specs.Units.{byte_width, size}
 use Rattle.daachorse_model.proofs.SameSearches.{standard-is}
 use Rattle.daachorse_model.proofs.Searches.{first_or}
+use Rattle.daachorse_model.proofs.Shifts.{standard_from-shifted}
 use Rattle.daachorse_model.proofs.Suffixes.{size-bytes}
-use Rattle.daachorse_search.specs.Afresh.{shifted}
 use Rattle.daachorse_c.proofs.Heads.{heads, no_match, tails}
-
-first_shifted : {V : Type 0} (b : ℕ) (here none found : List (Match V)) → first_or (map (shifted b) here) (map (shifted b) none) (map (shifted b) found) ≡ map (shifted b) (first_or here none found)
-first_shifted b [] none found = refl
-first_shifted b (m ∷ ms) none found = refl
 
 -- the search found m first in w, and then these
 pub record FollowsFirst {V : Type 0} (K : Dictionary V) (w : List ℕ) (m : Match V) (ms : List (Match V)) : Type 0 where
@@ -25,31 +20,6 @@ pub record FollowsFirst {V : Type 0} (K : Dictionary V) (w : List ℕ) (m : Matc
 
 module _ {V : Type 0} (K : Dictionary V) where
   -- ---- without an empty key
-
-  values_shifted : (d s e : ℕ) (vs : List V) → map (λ v. record { start = d + s; end = d + e; value = v }) vs ≡ map (shifted d) (map (λ v. record { start = s; end = e; value = v }) vs)
-  values_shifted d s e [] = refl
-  values_shifted d s e (v ∷ vs) = ap (λ l. record { start = d + s; end = d + e; value = v } ∷ l) (values_shifted d s e vs)
-
-  ending_at-shifted : (d s e : ℕ) (w : List ℕ) → ending_at byte_width K (d + s) (d + e) w ≡ map (shifted d) (ending_at byte_width K s e w)
-  ending_at-shifted d s e [] = values_shifted d s e (K [])
-  ending_at-shifted d s e (u ∷ w) =
-      ap (λ l. l ++ ending_at byte_width K (d + s + 1) (d + e) w) (values_shifted d s e (K (u ∷ w)))
-      ∙ ap (λ n. map (shifted d) (matches_of K s e (u ∷ w)) ++ ending_at byte_width K n (d + e) w) (add_assoc d s 1)
-      ∙ ap (λ l. map (shifted d) (matches_of K s e (u ∷ w)) ++ l) (ending_at-shifted d (s + 1) e w)
-      ∙ sym (map-append (shifted d) (matches_of K s e (u ∷ w)) (ending_at byte_width K (s + 1) e w))
-
-  standard-shifted : (b r : ℕ) (t w : List ℕ) → standard_from byte_width K (b + r) t w ≡ map (shifted b) (standard_from byte_width K r t w)
-  standard-shifted b r t [] = refl
-  standard-shifted b r t (u ∷ w) =
-      let x : List ℕ = t ++ u ∷ [] in
-      let e : ℕ = r + size byte_width x in
-      let here : List (Match V) = ending_at byte_width K r e x in
-      let far : (b + r) + size byte_width x ≡ b + e = add_assoc b r (size byte_width x) in
-      ap (λ n. first_or (ending_at byte_width K (b + r) n x) (standard_from byte_width K (b + r) x w) (standard_from byte_width K n [] w)) far
-      ∙ ap (λ l. first_or l (standard_from byte_width K (b + r) x w) (standard_from byte_width K (b + e) [] w)) (ending_at-shifted b r e x)
-      ∙ ap (λ l. first_or (map (shifted b) here) l (standard_from byte_width K (b + e) [] w)) (standard-shifted b r x w)
-      ∙ ap (λ l. first_or (map (shifted b) here) (map (shifted b) (standard_from byte_width K r x w)) l) (standard-shifted b e [] w)
-      ∙ first_shifted b here (standard_from byte_width K r x w) (standard_from byte_width K e [] w)
 
   -- the first match that ends at e starts in w, which begins at s
   pub record StartsIn (s e : ℕ) (w : List ℕ) (m : Match V) : Type 0 where
@@ -122,7 +92,7 @@ module _ {V : Type 0} (K : Dictionary V) where
         nonempty = λ lt.
             b.rest ∙ ap (λ n. standard_from byte_width K m.end [] (drop n w)) here
             ∙ ap (λ n. standard_from byte_width K n [] (drop m.end w)) far
-            ∙ standard-shifted m.end 0 [] (drop m.end w)
+            ∙ standard_from-shifted byte_width K m.end 0 [] (drop m.end w)
             ∙ ap (map (shifted m.end)) (sym (standard-is byte_width K (drop m.end w) none));
         empty = λ le lt. absurd (omega (arith, le, b.some));
         last = λ le at. absurd (omega (arith, le, b.some));

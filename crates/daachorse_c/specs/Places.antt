@@ -6,9 +6,8 @@ use Rattle.daachorse_model.specs.declared.MatchKind.TheVariants.{Standard, Leftm
 use Rattle.daachorse_model.specs.Dictionary.{Dictionary}
 use Rattle.daachorse_model.specs.Folding.{as_read}
 use Rattle.daachorse_model.specs.Leftmost.{leftmost_from}
-use Rattle.daachorse_model.specs.Matches.{standard}
+use Rattle.daachorse_model.specs.Matches.{standard, shifted}
 use Rattle.daachorse_model.specs.Units.{byte_width}
-use Rattle.daachorse_search.specs.Afresh.{shifted}
 use Rattle.daachorse_bytewise.specs.Automata.{Automaton, dictionary_of, kind_of}
 use Rattle.daachorse_c.specs.declared.found.CMatch.{CMatch}
 use Rattle.daachorse_c.specs.declared.place.Place.{Place}

@@ -1,7 +1,7 @@
 //! Where a search goes on.
 
 ghost use Rattle.std.specs.Prelude.{◌≡◌, ◌+◌, ◌≤◌};
-ghost use Rattle.daachorse_search.specs.Afresh.{shifted};
+ghost use Rattle.daachorse_model.specs.Matches.{shifted};
 ghost use Rattle.daachorse_c.specs.Places.{StandsBehind};
 
 use daachorse::Match;

@@ -7,8 +7,9 @@ use Rattle.daachorse_core.specs.Seen.{units}
 use Rattle.daachorse_model.specs.declared.Match.{Match}
 use Rattle.daachorse_model.specs.Outputs.{matches_of_outputs}
 use Rattle.daachorse_model.specs.Prefixes.{IsLong}
+use Rattle.daachorse_model.specs.Matches.{shifted}
 use Rattle.daachorse_model.proofs.Steps.{IsLong-nil}
-use Rattle.daachorse_search.specs.Afresh.{shifted, GoesOnAfresh}
+use Rattle.daachorse_search.specs.Afresh.{GoesOnAfresh}
 use Rattle.daachorse_search.specs.Searches.{all_found, first_found}
 use Rattle.daachorse_search.specs.Views.{AutomatonView}
 use Rattle.daachorse_search.specs.Walks.{Walked, IsFresh}

@@ -6,17 +6,18 @@ use Rattle.std.proofs.lemmas.List.Elements.{All-append, All-head, All-tail, All-
 use Rattle.std.proofs.lemmas.Bool.{lt-ltb, le-ltb}
 use Rattle.daachorse_model.specs.declared.Match.{Match}
 use Rattle.daachorse_model.specs.Dictionary.{Dictionary}
-use Rattle.daachorse_model.specs.Matches.{at_each_end, ending_at, matches_after, matches_of, overlapping}
+use Rattle.daachorse_model.specs.Matches.{at_each_end, ending_at, matches_after, matches_of, overlapping, shifted}
 use Rattle.daachorse_model.specs.Laws.{IsOccurrence}
 use Rattle.daachorse_model.proofs.Occur.{overlapping_occur}
 use Rattle.daachorse_model.specs.Units.{size, byte_width}
 use Rattle.daachorse_model.proofs.Suffixes.{le_or_lt, size-append, size-bytes}
 use Rattle.daachorse_model.proofs.Overlap.{take-append}
+use Rattle.daachorse_model.proofs.Shifts.{matches_after-past}
 use Rattle.daachorse_search.specs.BestScans.{HasNoLongerKey}
 use Rattle.daachorse_search.specs.Scans.{past_each_end}
 use Rattle.daachorse_search.proofs.ScanLaws.{at_each_end-split, past_each_end-append}
+use Rattle.daachorse_search.proofs.AfreshLaws.{shifted-none}
 use Rattle.daachorse_search.specs.Pieces.{IsCutInPieces, ending_behind}
-use Rattle.daachorse_search.specs.Afresh.{shifted}
 
 module _ {V : Type 0} (width : ℕ → ℕ) (K : Dictionary V) where
   -- ---- what is too long is no key
@@ -28,37 +29,8 @@ module _ {V : Type 0} (width : ℕ → ℕ) (K : Dictionary V) where
       from [] is = is
       from (v ∷ vs) is = let within : length w ≤ m = longest w (λ none. (let bad : v ∷ vs ≡ [] = sym is ∙ none in cc)) in absurd (omega arith)
 
-  short_only : (m s e : ℕ) (a w : List ℕ) → HasNoLongerKey K m → m ≤ length w → ending_at width K s e (a ++ w) ≡ ending_at width K (s + size width a) e w
-  short_only m s e [] w longest within = ap (λ n. ending_at width K n e w) (omega arith)
-  short_only m s e (u ∷ a) w longest within =
-      let none : K (u ∷ (a ++ w)) ≡ [] = no_key m (u ∷ (a ++ w)) longest (omega (arith, length-append a w)) in
-      ap (λ vs. map (λ v. record { start = s; end = e; value = v }) vs ++ ending_at width K (s + width u) e (a ++ w)) none
-      ∙ short_only m (s + width u) e a w longest within
-      ∙ ap (λ n. ending_at width K n e w) (omega arith)
-
-  -- ---- units in front move the places
-
-  shifted_of : (n s e : ℕ) (vs : List V) → map (λ v. record { start = n + s; end = n + e; value = v }) vs ≡ map (shifted n) (map (λ v. record { start = s; end = e; value = v }) vs)
-  shifted_of n s e [] = refl
-  shifted_of n s e (v ∷ vs) = ap (λ l. record { start = n + s; end = n + e; value = v } ∷ l) (shifted_of n s e vs)
-
-  shifted_ending : (n s e : ℕ) (w : List ℕ) → ending_at width K (n + s) (n + e) w ≡ map (shifted n) (ending_at width K s e w)
-  shifted_ending n s e [] = shifted_of n s e (K [])
-  shifted_ending n s e (u ∷ w) =
-      let next : (n + s) + width u ≡ n + (s + width u) = omega arith in
-      ap (λ l. l ++ ending_at width K ((n + s) + width u) (n + e) w) (shifted_of n s e (K (u ∷ w)))
-      ∙ ap (λ i. map (shifted n) (matches_of K s e (u ∷ w)) ++ ending_at width K i (n + e) w) next
-      ∙ ap (λ l. map (shifted n) (matches_of K s e (u ∷ w)) ++ l) (shifted_ending n (s + width u) e w)
-      ∙ sym (map-append (shifted n) (matches_of K s e (u ∷ w)) (ending_at width K (s + width u) e w))
-
   shifted_after : (m : ℕ) (a w : List ℕ) → HasNoLongerKey K m → m ≤ length w → matches_after width K (a ++ w) ≡ map (shifted (size width a)) (matches_after width K w)
-  shifted_after m a w longest within =
-      let n = size width a in
-      let start : 0 + n ≡ n + 0 = omega arith in
-      short_only m 0 (size width (a ++ w)) a w longest within
-      ∙ ap (λ i. ending_at width K i (size width (a ++ w)) w) start
-      ∙ ap (λ i. ending_at width K (n + 0) i w) (size-append width a w)
-      ∙ shifted_ending n 0 (size width w) w
+  shifted_after m a w longest within = matches_after-past width K a w (λ b ends some. no_key m (b ++ w) longest (omega (arith, length-append b w)))
 
   shifted_each : (m : ℕ) (a w b : List ℕ) → HasNoLongerKey K m → m ≤ length w → at_each_end (matches_after width K) (a ++ w) b ≡ map (shifted (size width a)) (at_each_end (matches_after width K) w b)
   shifted_each m a w [] longest within = shifted_after m a w longest within
@@ -76,15 +48,6 @@ module _ {V : Type 0} (width : ℕ → ℕ) (K : Dictionary V) where
   shifted_past m a w [] longest within = refl
   shifted_past m a w (u ∷ b) longest within =
       ap (λ x. at_each_end (matches_after width K) x b) (append_assoc a w (u ∷ [])) ∙ shifted_each m a (w ++ u ∷ []) b longest (omega (arith, length-append w (u ∷ [])))
-
-  -- nothing in front moves nothing
-  shifted_none : (ms : List (Match V)) → ms ≡ map (shifted 0) ms
-  shifted_none [] = refl
-  shifted_none (m ∷ ms) =
-      let start : m.start ≡ 0 + m.start = omega arith in
-      let end : m.end ≡ 0 + m.end = omega arith in
-      let same : m ≡ shifted 0 m = (λ i. record { start = start i; end = end i; value = m.value }) in
-      ap (λ x. x ∷ ms) same ∙ ap (λ l. shifted 0 m ∷ l) (shifted_none ms)
 
   -- ---- where matches end
 
@@ -145,7 +108,7 @@ module _ {V : Type 0} (width : ℕ → ℕ) (K : Dictionary V) where
 
   -- nothing stands before what is carried
   pub first_hold : (carried rest : List ℕ) → ((u : ℕ) → 1 ≤ width u) → IsCutInPieces width K [] carried rest
-  first_hold carried rest some = cut_from [] carried rest some (shifted_none (past_each_end (matches_after width K) carried rest))
+  first_hold carried rest some = cut_from [] carried rest some (sym (shifted-none (past_each_end (matches_after width K) carried rest)))
 
 -- ---- over bytes, by places
 

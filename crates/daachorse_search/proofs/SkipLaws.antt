@@ -6,9 +6,9 @@ use Rattle.daachorse_model.specs.declared.Match.{Match}
 use Rattle.daachorse_model.specs.Units.{size}
 use Rattle.daachorse_model.specs.Dictionary.{Dictionary}
 use Rattle.daachorse_model.specs.Best.{NoneStarts}
-use Rattle.daachorse_model.specs.Matches.{at_each_end}
+use Rattle.daachorse_model.specs.Matches.{at_each_end, shifted}
 use Rattle.daachorse_model.proofs.Suffixes.{size-append}
-use Rattle.daachorse_search.specs.Afresh.{shifted, GoesOnAfresh}
+use Rattle.daachorse_search.specs.Afresh.{GoesOnAfresh}
 use Rattle.daachorse_haystack.specs.Filters.{IsSoundFor, IsNextPassing, PassesNoneBefore, PassesNowhere, count_passing}
 use Rattle.daachorse_search.specs.LeftmostSearches.{before_rest}
 use Rattle.daachorse_search.specs.Matches.{matches_left, ReadsTo}

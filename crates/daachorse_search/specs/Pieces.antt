@@ -2,9 +2,8 @@
 use Rattle.std.specs.Prelude.{◌≡◌, ℕ, List, ◌++◌, filter, map, nat_lt}
 use Rattle.daachorse_model.specs.declared.Match.{Match}
 use Rattle.daachorse_model.specs.Dictionary.{Dictionary}
-use Rattle.daachorse_model.specs.Matches.{overlapping}
+use Rattle.daachorse_model.specs.Matches.{overlapping, shifted}
 use Rattle.daachorse_model.specs.Units.{size}
-use Rattle.daachorse_search.specs.Afresh.{shifted}
 
 -- those of the matches that end behind place p
 abbrev pub ending_behind : {V : Type 0} → ℕ → List (Match V) → List (Match V)

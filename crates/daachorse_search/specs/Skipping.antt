@@ -4,7 +4,7 @@ use Rattle.std.specs.declared.num.NonZeroU32.{NonZeroU32}
 use Rattle.daachorse_core.specs.Outputs.{number}
 use Rattle.daachorse_model.specs.declared.Match.{Match}
 use Rattle.daachorse_model.specs.Units.{size}
-use Rattle.daachorse_search.specs.Afresh.{shifted}
+use Rattle.daachorse_model.specs.Matches.{shifted}
 use Rattle.daachorse_haystack.specs.Filters.{IsSoundFor, PassesNowhere, count_passing}
 use Rattle.daachorse_search.specs.LeftmostSearches.{before_rest}
 use Rattle.daachorse_search.specs.Matches.{matches_left}

@@ -1,11 +1,10 @@
 //! Haystacks in pieces, each searched by itself.
 ghost use Rattle.std.specs.Prelude.{◌≡◌, ◌-◌, ◌+◌, ◌≤◌, ℕ, List, ◌++◌, drop, length, map, take};
 ghost use Rattle.daachorse_model.specs.Dictionary.{Dictionary};
-ghost use Rattle.daachorse_model.specs.Matches.{overlapping};
+ghost use Rattle.daachorse_model.specs.Matches.{overlapping, shifted};
 ghost use Rattle.daachorse_model.specs.Units.{byte_width};
 ghost use Rattle.daachorse_search.specs.BestScans.{HasNoLongerKey};
 ghost use Rattle.daachorse_search.specs.Pieces.{IsCutInPieces, ending_behind};
-ghost use Rattle.daachorse_search.specs.Afresh.{shifted};
 
 /// Returns the byte offset where a piece of a haystack must begin to find all that ends after `at`,
 /// if no pattern has more than `longest` bytes.

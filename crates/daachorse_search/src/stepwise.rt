@@ -3,8 +3,9 @@
 ghost use Rattle.std.specs.Prelude.{◌≡◌, ◌≢◌, ◌↔◌, ◌+◌, ◌*◌, ◌≤◌, ◌<◌, ℕ, [], ◌∷◌, ◌++◌, IfSome, IsSome, IsTrue, count_by, length, map};
 ghost use Rattle.std.specs.Bool.{OnTrue};
 ghost use Rattle.daachorse_model.specs.Units.{size};
+ghost use Rattle.daachorse_model.specs.Matches.{shifted};
 ghost use Rattle.daachorse_core.specs.Outputs.{number};
-ghost use Rattle.daachorse_search.specs.Afresh.{GoesOnAfresh, shifted};
+ghost use Rattle.daachorse_search.specs.Afresh.{GoesOnAfresh};
 ghost use Rattle.daachorse_search.specs.Stepwise.{StepView, Stops};
 
 use daachorse_core::Match;

@@ -6,8 +6,8 @@ ghost use Rattle.daachorse_model.specs.Best.{IsSteady, LeftSteps};
 ghost use Rattle.daachorse_model.specs.Prefixes.{IsCut, IsLong};
 ghost use Rattle.daachorse_core.specs.Outputs.{number, value_of, length_of, parent_of};
 ghost use Rattle.daachorse_model.specs.Outputs.{AllWithin, matches_of_outputs};
+ghost use Rattle.daachorse_model.specs.Matches.{shifted};
 ghost use Rattle.daachorse_core.specs.Seen.{units, unread};
-ghost use Rattle.daachorse_search.specs.Afresh.{shifted};
 ghost use Rattle.daachorse_search.specs.Views.{HasDepths, HasFirst, IsLeftmostView, IsStandard, Steps};
 ghost use Rattle.daachorse_search.specs.Walks.{read_on, skip_on, begin_on, HasOutputs, IsWalking};
 

@@ -2,7 +2,7 @@
 use Rattle.std.proofs.Common.{◌≡◌, ◌+◌, ◌∷◌, ℕ, map, take, sym, subst}
 use Rattle.daachorse_core.specs.Seen.{units}
 use Rattle.daachorse_model.specs.Units.{size}
-use Rattle.daachorse_search.specs.Afresh.{shifted}
+use Rattle.daachorse_model.specs.Matches.{shifted}
 use Rattle.daachorse_search.specs.Nothing.{HasPlace-none, first_from-none}
 use Rattle.daachorse_search.specs.Walks.{Walked, matches_from}
 use Rattle.daachorse_search.proofs.AfreshLaws.{first_shifted}

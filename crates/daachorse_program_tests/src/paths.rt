@@ -15,8 +15,9 @@ pub use daachorse::errors::{
 };
 pub use daachorse::intpack::{U24, U24nU8};
 pub use daachorse::laws::{
-    folding_keeps_places, leftmost_first_is_earliest, leftmost_is_longest, matches_follow,
-    matches_occur, ordered_by_bytes, same_on_text, standard_end_by_end,
+    certain_matches_grow, cut_at_unused_units, folding_keeps_places, leftmost_first_is_earliest,
+    leftmost_is_longest, matches_follow, matches_occur, ordered_by_bytes, same_on_text,
+    standard_end_by_end,
 };
 pub use daachorse::nfa_builder::{
     DEAD_STATE_ID, EdgeLabel, NfaBuilder, NfaBuilderState, ROOT_STATE_ID,

@@ -86,6 +86,8 @@ fn laws_stand_at_a_type() {
     laws::matches_follow::<u32>(MatchKind::LeftmostLongest);
     laws::leftmost_is_longest::<u32>(MatchKind::LeftmostLongest);
     laws::leftmost_first_is_earliest::<u32>();
+    laws::certain_matches_grow::<u32>(MatchKind::LeftmostLongest);
+    laws::cut_at_unused_units::<u32>(MatchKind::LeftmostFirst);
     laws::same_on_text::<u32>(MatchKind::LeftmostFirst);
     laws::ordered_by_bytes();
     laws::folding_keeps_places();

@@ -1,9 +1,9 @@
 -- What is certain is one list, and it grows.
-use Rattle.std.proofs.Common.{◌≡◌, ℕ, ◌+◌, List, [], ◌∷◌, ◌++◌, length, refl, sym, ap, ◌∙◌, append_assoc, append-nil, length-append, arith}
+use Rattle.std.proofs.Common.{◌≡◌, ℕ, List, [], ◌∷◌, ◌++◌, length, sym, ap, ◌∙◌, append_assoc, append-nil, length-append, arith}
 use Rattle.daachorse_model.specs.declared.Match.{Match}
 use Rattle.daachorse_model.specs.Dictionary.{Dictionary}
 use Rattle.daachorse_model.specs.Leftmost.{leftmost}
-use Rattle.daachorse_model.specs.Certain.{BeginEach, AreCertain}
+use Rattle.daachorse_model.specs.Certain.{AreCertain}
 
 -- two lists that begin each other
 begin_each_other : {A : Type 0} (xs ys r s : List A) → xs ≡ ys ++ r → ys ≡ xs ++ s → xs ≡ ys

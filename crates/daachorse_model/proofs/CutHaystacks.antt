@@ -9,7 +9,7 @@ use Rattle.daachorse_model.specs.Dictionary.{Dictionary}
 use Rattle.daachorse_model.specs.Matches.{matches_of, at_each_end, ending_at, matches_after, overlapping, no_suffix, empty_matches, standard_from, standard, shifted}
 use Rattle.daachorse_model.specs.Leftmost.{key_with_value, longest_key, match_at, units_to_skip, is_after, leftmost_from, leftmost}
 use Rattle.daachorse_model.specs.Prefixes.{IsSuffix}
-use Rattle.daachorse_model.specs.Laws.{IsUnused, IsCutBy}
+use Rattle.daachorse_model.specs.Laws.{StandsInNoKey, IsCutBy}
 use Rattle.daachorse_model.proofs.Suffixes.{size-append, IsSuffix-of_push}
 use Rattle.daachorse_model.proofs.Lists.{nil_of}
 use Rattle.daachorse_model.proofs.Searches.{first_or, key_with_value-none}
@@ -68,7 +68,7 @@ leftmost_from-after {V} width K s zero after (c ∷ w) no_empty = by (leftmost_f
     by rest (Some ([], v)) e = let b = longest_key-begins K [] (c ∷ w) ([], v) e in absurd (let bad : [] ≡ v ∷ b.others = sym no_empty ∙ b.first in cc)
     by rest (Some (d ∷ p, v)) e = refl
 
-module _ {V : Type 0} (width : ℕ → ℕ) (K : Dictionary V) (u : ℕ) (unused : IsUnused K u) where
+module _ {V : Type 0} (width : ℕ → ℕ) (K : Dictionary V) (u : ℕ) (unused : StandsInNoKey K u) where
   no_key : (t x : List ℕ) → K (t ++ u ∷ x) ≡ []
   no_key t x = nil_of (K (t ++ u ∷ x)) (λ key. unused (t ++ u ∷ x) key (Contains-append_right t (u ∷ x) u (0, omega arith, refl)))
 

@@ -60,8 +60,8 @@ pub record IsEarliestAtStart {V : Type 0} (width : ℕ → ℕ) (registrations :
   pub ends : m.end ≡ m.start + size width key
 
 -- the unit stands in no key
-abbrev pub IsUnused : {V : Type 0} → Dictionary V → ℕ → Type 0
-IsUnused K u = (k : List ℕ) → IsKey K k → ¬ Contains k u
+abbrev pub StandsInNoKey : {V : Type 0} → Dictionary V → ℕ → Type 0
+StandsInNoKey K u = (k : List ℕ) → IsKey K k → ¬ Contains k u
 
 -- the unit cuts each haystack: what is found is what is found before it, and then what is found behind it, shifted to where that begins
 abbrev pub IsCutBy : {V : Type 0} → (ℕ → ℕ) → (List ℕ → List (Match V)) → ℕ → Type 0

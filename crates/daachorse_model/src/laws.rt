@@ -14,7 +14,7 @@ ghost use Rattle.daachorse_model.specs.Dictionary.{kept_registrations, dictionar
 ghost use Rattle.daachorse_model.specs.Matches.{overlapping, no_suffix, standard, at_each_end, standard_after};
 ghost use Rattle.daachorse_model.specs.Leftmost.{leftmost};
 ghost use Rattle.daachorse_model.specs.Certain.{AreCertain};
-ghost use Rattle.daachorse_model.specs.Laws.{IsOccurrence, IsReadOccurrence, IsRegistered, Follows, IsLongestAtStart, IsEarliestAtStart, IsUnused, IsCutBy};
+ghost use Rattle.daachorse_model.specs.Laws.{IsOccurrence, IsReadOccurrence, IsRegistered, Follows, IsLongestAtStart, IsEarliestAtStart, StandsInNoKey, IsCutBy};
 
 use crate::MatchKind;
 
@@ -71,10 +71,10 @@ pub fn certain_matches_grow<V: Copy>(kind: MatchKind)
 
 /// A unit that no pattern has cuts a haystack in two, which may be searched apart.
 pub fn cut_at_unused_units<V: Copy>(kind: MatchKind)
-    ensures overlapping { (width : ℕ → ℕ) (patterns : List (List ℕ × V)) (u : ℕ) → let K = dictionary kind patterns in IsUnused K u → IsCutBy width (overlapping width K) u }
-    ensures no_suffix { (width : ℕ → ℕ) (patterns : List (List ℕ × V)) (u : ℕ) → let K = dictionary kind patterns in IsUnused K u → IsCutBy width (no_suffix width K) u }
-    ensures standard { (width : ℕ → ℕ) (patterns : List (List ℕ × V)) (u : ℕ) → let K = dictionary kind patterns in IsUnused K u → IsCutBy width (standard width K) u }
-    ensures leftmost { (width : ℕ → ℕ) (patterns : List (List ℕ × V)) (u : ℕ) → let K = dictionary kind patterns in IsUnused K u → IsCutBy width (leftmost width K) u }
+    ensures overlapping { (width : ℕ → ℕ) (patterns : List (List ℕ × V)) (u : ℕ) → let K = dictionary kind patterns in StandsInNoKey K u → IsCutBy width (overlapping width K) u }
+    ensures no_suffix { (width : ℕ → ℕ) (patterns : List (List ℕ × V)) (u : ℕ) → let K = dictionary kind patterns in StandsInNoKey K u → IsCutBy width (no_suffix width K) u }
+    ensures standard { (width : ℕ → ℕ) (patterns : List (List ℕ × V)) (u : ℕ) → let K = dictionary kind patterns in StandsInNoKey K u → IsCutBy width (standard width K) u }
+    ensures leftmost { (width : ℕ → ℕ) (patterns : List (List ℕ × V)) (u : ℕ) → let K = dictionary kind patterns in StandsInNoKey K u → IsCutBy width (leftmost width K) u }
 {}
 
 /// On text and nonempty patterns of text, bytes and characters give the same matches, with or

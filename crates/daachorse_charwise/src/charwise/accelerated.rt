@@ -165,9 +165,9 @@ impl<V: Copy, A: Allocator + Copy> CharwiseDoubleArrayAhoCorasick<V, A> {
 }
 
 impl<V: Copy, A: Allocator> CharwiseDoubleArrayAhoCorasick<V, A> {
-    /// The states as standard searches see them.
+    /// The states as standard searches see them, for walks of a caller's own.
     #[inline(always)]
-    fn standard<'s>(&'s self) -> states::Standard<'s, V>
+    pub fn standard<'s>(&'s self) -> states::Standard<'s, V>
         requires { kind_of self.now ≡ Standard }
         ensures { result ≡ states_of self.entry.now }
     {

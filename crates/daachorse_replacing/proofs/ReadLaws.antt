@@ -12,7 +12,7 @@ use Rattle.std.specs.Str.{encode_utf8_all}
 use Rattle.std.specs.declared.io.Error.{Error}
 use Rattle.std.proofs.KnownBytes.{Consumes-nil, Consumes-trans}
 use Rattle.daachorse_model.specs.declared.Match.{Match}
-use Rattle.daachorse_search.specs.Readers.{GivesByte, GivesCharacter, Reading, to_read}
+use Rattle.daachorse_search.specs.Readers.{GivesByte, GivesCharacter, Reading, to_give, to_read}
 use Rattle.daachorse_replacing.specs.ReplacedWith.{IsReplaced, IsReplacedSoFar}
 use Rattle.daachorse_replacing.specs.Streams.{IsReadReplaced, IsReadReplacedSoFar, IsStreamed, IsStreamedSoFar, ReplacesRead}
 use Rattle.daachorse_replacing.proofs.LeadsOn.{so_far_nothing}
@@ -29,7 +29,7 @@ some_taken None b text took = tt
 some_taken (Some xs) None text took = absurd took
 some_taken (Some xs) (Some ys) text took = (ys, took)
 
-bytes_are : (units : List ℕ) → flat_map (λ b. b ∷ []) units ≡ units
+pub bytes_are : (units : List ℕ) → flat_map (λ b. b ∷ []) units ≡ units
 bytes_are [] = refl
 bytes_are (b ∷ units) = ap (λ l. b ∷ l) (bytes_are units)
 
@@ -38,25 +38,25 @@ characters_are [] = refl
 characters_are (c ∷ units) = ap (λ l. encode_utf8 c ++ l) (characters_are units)
 
 module _ {R : Type 0} (known : R → Option (List ℕ)) where
-  byte_taken : (s : Reading R) (bytes : List ℕ) (t : Reading R) → Yields (GivesByte known) s bytes t → Consumes (known s.reader) (known t.reader) bytes
-  byte_taken s [] t same = subst (λ (x : Reading R). Consumes (known s.reader) (known x.reader) []) same (Consumes-nil (known s.reader))
-  byte_taken s (b ∷ bytes) t (j, gave, run) = Consumes-trans (known s.reader) (known j.reader) (known t.reader) (b ∷ []) bytes gave.0 (byte_taken j bytes t run)
+  byte_taken : (s : Reading R) (bytes : List ℕ) (t : Reading R) → Yields (GivesByte known) s bytes t → Consumes (to_give known s) (to_give known t) bytes
+  byte_taken s [] t same = subst (λ (x : Reading R). Consumes (to_give known s) (to_give known x) []) same (Consumes-nil (to_give known s))
+  byte_taken s (b ∷ bytes) t (j, gave, run) = Consumes-trans (to_give known s) (to_give known j) (to_give known t) (b ∷ []) bytes gave.0 (byte_taken j bytes t run)
 
-  characters_taken : (s : Reading R) (units : List ℕ) (t : Reading R) → Yields (GivesCharacter known) s units t → Consumes (known s.reader) (known t.reader) (encode_utf8_all units)
-  characters_taken s [] t same = subst (λ (x : Reading R). Consumes (known s.reader) (known x.reader) []) same (Consumes-nil (known s.reader))
+  characters_taken : (s : Reading R) (units : List ℕ) (t : Reading R) → Yields (GivesCharacter known) s units t → Consumes (to_give known s) (to_give known t) (encode_utf8_all units)
+  characters_taken s [] t same = subst (λ (x : Reading R). Consumes (to_give known s) (to_give known x) []) same (Consumes-nil (to_give known s))
   characters_taken s (c ∷ units) t (j, gave, run) =
-      Consumes-trans (known s.reader) (known j.reader) (known t.reader) (encode_utf8 c) (encode_utf8_all units) (byte_taken s (encode_utf8 c) j gave.1) (characters_taken j units t run)
+      Consumes-trans (to_give known s) (to_give known j) (to_give known t) (encode_utf8 c) (encode_utf8_all units) (byte_taken s (encode_utf8 c) j gave.1) (characters_taken j units t run)
 
   are_scalars : (s : Reading R) (units : List ℕ) (t : Reading R) → Yields (GivesCharacter known) s units t → All IsScalar units
   are_scalars s [] t same = All-nil IsScalar
   are_scalars s (c ∷ units) t (j, gave, run) = All-cons IsScalar c units gave.0 (are_scalars j units t run)
 
-  at_end : (s t : Reading R) → GivesCharacter known s None t → t.failure ≡ None → IsAtEnd (known s.reader)
+  at_end : (s t : Reading R) → GivesCharacter known s None t → t.failure ≡ None → IsAtEnd (to_give known s)
   at_end s t (inl gave) whole = gave.1 whole
   at_end s t (inr fails) whole = absurd (false≢true (subst IsSome whole fails.failed))
 
-  starts_from : {source : Reading R} {reader : R} {left : Option (List ℕ)} → source ≡ to_read reader → known reader ≡ left → known source.reader ≡ left
-  starts_from reads same = ap (λ (x : Reading R). known x.reader) reads ∙ same
+  starts_from : {source : Reading R} {reader : R} {left : Option (List ℕ)} → source ≡ to_read reader → known reader ≡ left → to_give known source ≡ left
+  starts_from reads same = ap (λ (x : Reading R). to_give known x) reads ∙ same
 
 module _ {V P O F R : Type 0} (bytes : P → List ℕ) (taken : O → Option (List ℕ)) (step : F → Match V → P → MutBor O → Result (Unit {0}) Error → MutBor O → F → Type 0)
     {found matches : List ℕ → List (Match V)} (known : R → Option (List ℕ)) {source : Reading R} {reader : R} (f : F) (old new : O) {left : Option (List ℕ)}
@@ -67,7 +67,7 @@ module _ {V P O F R : Type 0} (bytes : P → List ℕ) (taken : O → Option (Li
     are = λ k d inside. tt;
     all =
         subst (λ o. IfSome o (λ l. l ≡ h.units)) (starts_from known reads same)
-        (all_taken (known source.reader) (known h.last.reader) h.units (byte_taken known source h.units h.last h.took) (h.ends.1 h.whole));
+        (all_taken (to_give known source) (to_give known h.last) h.units (byte_taken known source h.units h.last h.took) (h.ends.1 h.whole));
     replaced =
         let Q : List ℕ → List ℕ → Type 0 = λ text units. IsReplaced bytes taken text step (found units) f old new in
         let M : (List ℕ → List (Match V)) → Type 0 = λ m. IsReplaced bytes taken h.units step (m h.units) f old new in
@@ -80,7 +80,7 @@ module _ {V P O F R : Type 0} (bytes : P → List ℕ) (taken : O → Option (Li
     are = λ k d inside. tt;
     begins =
         subst (λ o. IfSome o (λ l. (rest : List ℕ) × (l ≡ h.units ++ rest))) (starts_from known reads same)
-        (some_taken (known source.reader) (known h.last.reader) h.units (byte_taken known source h.units h.last h.took));
+        (some_taken (to_give known source) (to_give known h.last) h.units (byte_taken known source h.units h.last h.took));
     replaced =
         let Q : List ℕ → List ℕ → Type 0 = λ text units. IsReplacedSoFar bytes taken text step (found units) f old new in
         let M : (List ℕ → List (Match V)) → Type 0 = λ m. IsReplacedSoFar bytes taken h.units step (m h.units) f old new in
@@ -93,7 +93,7 @@ module _ {V P O F R : Type 0} (bytes : P → List ℕ) (taken : O → Option (Li
     are = are_scalars known source h.units h.last h.took;
     all =
         subst (λ o. IfSome o (λ l. l ≡ encode_utf8_all h.units)) (starts_from known reads same)
-        (all_taken (known source.reader) (known h.last.reader) (encode_utf8_all h.units) (characters_taken known source h.units h.last h.took) (at_end known h.last h.ended h.ends h.whole));
+        (all_taken (to_give known source) (to_give known h.last) (encode_utf8_all h.units) (characters_taken known source h.units h.last h.took) (at_end known h.last h.ended h.ends h.whole));
     replaced =
         let Q : List ℕ → List ℕ → Type 0 = λ text units. IsReplaced bytes taken text step (found units) f old new in
         let M : (List ℕ → List (Match V)) → Type 0 = λ m. IsReplaced bytes taken (encode_utf8_all h.units) step (m h.units) f old new in
@@ -107,7 +107,7 @@ module _ {V P O F R : Type 0} (bytes : P → List ℕ) (taken : O → Option (Li
     are = are_scalars known source h.units h.last h.took;
     begins =
         subst (λ o. IfSome o (λ l. (rest : List ℕ) × (l ≡ encode_utf8_all h.units ++ rest))) (starts_from known reads same)
-        (some_taken (known source.reader) (known h.last.reader) (encode_utf8_all h.units) (characters_taken known source h.units h.last h.took));
+        (some_taken (to_give known source) (to_give known h.last) (encode_utf8_all h.units) (characters_taken known source h.units h.last h.took));
     replaced =
         let Q : List ℕ → List ℕ → Type 0 = λ text units. IsReplacedSoFar bytes taken text step (found units) f old new in
         let M : (List ℕ → List (Match V)) → Type 0 = λ m. IsReplacedSoFar bytes taken (encode_utf8_all h.units) step (m h.units) f old new in

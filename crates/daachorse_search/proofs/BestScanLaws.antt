@@ -72,7 +72,7 @@ module _ {V : Type 0} (K : Dictionary V) where
   final w t u more a k (inr stops) empty best = stops.1.best a k more best
 
   -- where nothing occurs in w and no end of w begins a key, nothing starts in w, whatever follows
-  none_starts : (w more : List ℕ) → IsSteady K w [] → IsBestSoFar K w None → NoneStarts K (length w) (w ++ more)
+  pub none_starts : (w more : List ℕ) → IsSteady K w [] → IsBestSoFar K w None → NoneStarts K (length w) (w ++ more)
   none_starts w more steady none a k b o =
       elim (le_or_lt (length w) (length a)) [
         | inl past ↦ past

@@ -1,5 +1,5 @@
 -- A character takes as many places as bytes from a reader, so those of all that it has left fit.
-use Rattle.std.proofs.Common.{◌≡◌, ℕ, ◌+◌, List, [], ◌∷◌, ◌++◌, map, length, Option, Some, ap, arith}
+use Rattle.std.proofs.Common.{◌≡◌, ℕ, ◌+◌, List, [], ◌∷◌, ◌++◌, map, Option, Some, ap, arith}
 use Rattle.std.specs.Prelude.{⊤}
 use Rattle.std.proofs.Math.Utf8.{encode}
 use Rattle.std.proofs.lemmas.List.{map-id}
@@ -9,17 +9,13 @@ use Rattle.daachorse_model.specs.Units.{size, char_width}
 use Rattle.daachorse_model.proofs.Suffixes.{size-append}
 use Rattle.daachorse_haystack.specs.ByteSources.{Reads-yields}
 use Rattle.daachorse_haystack.specs.Sources.{IsReady}
-use Rattle.daachorse_search.specs.Readers.{GivesByte, GivesCharacter, MayReadCharacters, Reading}
+use Rattle.daachorse_search.specs.ByteReaders.{bytes_take}
+use Rattle.daachorse_search.specs.Readers.{GivesCharacter, MayReadCharacters, Reading}
 
 module _ {R : Type 0} (known : R → Option (List ℕ)) where
-  -- each byte takes one place
-  bytes_take : (s : Reading R) (bytes : List ℕ) (t : Reading R) → Yields (GivesByte known) s bytes t → length bytes + t.left ≡ s.left
-  bytes_take s [] t same = let P : s.left ≡ t.left = ap (λ (x : Reading R). x.left) same in omega arith
-  bytes_take s (b ∷ bytes) t run = omega (arith, run.1.1, bytes_take run.0 bytes t run.2)
-
-  -- and a character as many as it has bytes
+  -- a character takes as many places as it has bytes
   pub character_takes : (s : Reading R) (c : ℕ) (t : Reading R) → GivesCharacter known s (Some c) t → char_width c + t.left ≡ s.left
-  character_takes s c t gave = omega (arith, bytes_take s (encode c) t gave.1, length-encode c)
+  character_takes s c t gave = omega (arith, bytes_take known s (encode c) t gave.1, length-encode c)
 
   characters_take : (s : Reading R) (cs : List ℕ) (t : Reading R) → Yields (GivesCharacter known) s cs t → size char_width cs + t.left ≡ s.left
   characters_take s [] t same = let P : s.left ≡ t.left = ap (λ (x : Reading R). x.left) same in omega arith

@@ -5,6 +5,7 @@ pub mod Scans
 pub mod Stepwise
 pub mod Searches
 pub mod Readers
+pub mod ByteReaders
 pub mod CharacterReaders
 pub mod SearchViews
 pub mod Finds

@@ -1,7 +1,7 @@
 -- A search over a reader: what callers see of the source that reads it, and what each call gives.
 use Rattle.std.specs.Prelude.{◌≡◌, ◌≢◌, ℕ, ◌+◌, ◌*◌, ◌-◌, ◌^◌, ◌<◌, ◌⊎◌, List, [], ◌∷◌, length, Option, Some, None, IfSome, IsSome, Result, Ok, Err, ⊤}
 use Rattle.std.specs.Char.{IsScalar, encode_utf8}
-use Rattle.std.specs.Io.KnownBytes.{Consumes, IsAtEnd, Keeps}
+use Rattle.std.specs.Io.KnownBytes.{Consumes, IsAtEnd, Keeps, prepend_known}
 use Rattle.std.specs.IoError.{error_kind}
 use Rattle.std.specs.Io.Buffered.{reader_buffer, reader_inner, reader_remaining}
 use Rattle.std.specs.declared.io.BufReader.{BufReader}
@@ -10,46 +10,55 @@ use Rattle.std.specs.Option.{option_map}
 use Rattle.std.specs.declared.io.Error.{Error}
 use Rattle.std.specs.declared.io.ErrorKind.TheVariants.{Interrupted}
 use Rattle.daachorse_model.specs.declared.Match.{Match}
-use Rattle.daachorse_model.specs.Units.{char_width, size}
-use Rattle.daachorse_haystack.specs.Sources.{MayRead}
+use Rattle.daachorse_model.specs.Units.{byte_width, char_width, size}
 use Rattle.daachorse_search.specs.Searches.{GivesFrom, SourceProgress}
 
--- what callers see of a source that reads a reader R: the reader, how many more of its bytes have places that fit, and the error at which the source ended, if it did
+-- what callers see of a source that reads a reader R: the reader, the bytes that were taken from it in a block and are still to be given, how many more bytes have places that fit, and the error at which the source ended, if it did
 pub record Reading (R : Type 0) : Type 0 where
   pub reader : R
+  pub ahead : List ℕ
   pub left : ℕ
   pub failure : Option Error
 
 -- nothing was read yet
 abbrev pub to_read : {R : Type 0} → R → Reading R
-to_read r = record { reader = r; left = 2 ^ 64 - 1; failure = None }
+to_read r = record { reader = r; ahead = []; left = 2 ^ 64 - 1; failure = None }
 
 -- A reader with these bytes left, where they are known, gave the next of them, or was at its end.
 abbrev pub TakesNext : Option (List ℕ) → Option ℕ → Option (List ℕ) → Type 0
 TakesNext old (Some b) new = Consumes old new (b ∷ [])
 TakesNext old None new = Keeps old new × IsAtEnd old
 
+-- these bytes, and then those that a reader has left
+abbrev pub behind : List ℕ → Option (List ℕ) → Option (List ℕ)
+behind [] known = known
+behind (b ∷ bytes) known = prepend_known (b ∷ bytes) known
+
 -- where `known` is what a reader has left, if that is known
 module _ {R : Type 0} (known : R → Option (List ℕ)) where
+  -- what the source has still to give, if that is known
+  abbrev pub to_give : Reading R → Option (List ℕ)
+  to_give s = behind s.ahead (known s.reader)
+
   -- a call took the reader's next byte, or none, and then the reader is at its end or the source failed
   abbrev pub GivesByte : Reading R → Option ℕ → Reading R → Type 0
-  GivesByte s (Some b) t = Consumes (known s.reader) (known t.reader) (b ∷ []) × (t.left + 1 ≡ s.left)
-  GivesByte s None t = Keeps (known s.reader) (known t.reader) × (t.failure ≡ None → IsAtEnd (known s.reader))
-
-  -- where these bytes were taken, the places of all that are left fit
-  abbrev pub MayReadBytes : Reading R → List ℕ → Type 0
-  MayReadBytes = MayRead (λ _. ⊤) GivesByte (λ s. at_most s.left)
+  GivesByte s (Some b) t = Consumes (to_give s) (to_give t) (b ∷ []) × (t.left + 1 ≡ s.left)
+  GivesByte s None t = Keeps (to_give s) (to_give t) × (t.failure ≡ None → IsAtEnd (to_give s))
 
   -- some bytes were taken, and then the source failed
   pub record Fails (s t : Reading R) : Type 0 where
     pub bytes : List ℕ
-    pub took : Consumes (known s.reader) (known t.reader) bytes
+    pub took : Consumes (to_give s) (to_give t) bytes
     pub failed : IsSome t.failure
 
   -- A call took the bytes of the reader's next character and no others. Or the reader was at its end, or the source failed, as it does at bytes that are no UTF-8.
   abbrev pub GivesCharacter : Reading R → Option ℕ → Reading R → Type 0
   GivesCharacter s (Some c) t = IsScalar c × Yields GivesByte s (encode_utf8 c) t
   GivesCharacter s None t = GivesByte s None t ⊎ Fails s t
+
+-- where these bytes were taken, the places of all that are left fit
+abbrev pub MayReadBytes : {R : Type 0} → Reading R → List ℕ → Type 0
+MayReadBytes s read = size byte_width read + s.left < 2 ^ 64
 
 -- where these characters were taken, the places of all bytes that are left fit
 abbrev pub MayReadCharacters : {R : Type 0} → Reading R → List ℕ → Type 0

@@ -47,12 +47,12 @@ pub struct ReadBytes<R> {
 }
 
 impl<R> Model for ReadBytes<R> {
-    ghost use Rattle.std.specs.Prelude.{IfSome};
+    ghost use Rattle.std.specs.Prelude.{IfSome, []};
     ghost use Rattle.daachorse_search.specs.Readers.{IsLasting, Reading};
 
     ghost Value = { Reading R };
 
-    ghost view = { λ s. record { reader = s.reader; left = s.left; failure = s.failure } };
+    ghost view = { λ s. record { reader = s.reader; ahead = []; left = s.left; failure = s.failure } };
 
     ghost invariant = { λ s. IfSome s.failure IsLasting };
 }
@@ -61,7 +61,7 @@ impl<R: BufRead> ReadBytes<R> {
     /// What the reader gives from here on.
     pub fn new(reader: R) -> Self
         ensures reader { result ≡ to_read reader }
-        ensures may { MayReadBytes R.remaining result [] }
+        ensures may { MayReadBytes result [] }
     {
         Self {
             reader,
@@ -70,9 +70,35 @@ impl<R: BufRead> ReadBytes<R> {
         }
     }
 
+    /// The reader, and how many more of its bytes have a place that fits.
+    pub fn into_parts(self) -> (R, u64)
+        ensures reader { result.0 ≡ self.reader }
+        ensures left { result.1 ≡ self.left }
+        ensures ahead { self.ahead ≡ [] }
+    {
+        (self.reader, self.left)
+    }
+
+    /// A source that goes on with a reader, of which so many more bytes have a place that fits. It
+    /// has ended if there is an error at which it did.
+    ///
+    /// # Conditions
+    /// The error is no interruption.
+    pub fn from_parts(reader: R, left: u64, failure: Option<io::Error>) -> Self
+        requires { IfSome failure IsLasting }
+        ensures { result ≡ record { reader = reader; ahead = []; left = left; failure = failure } }
+    {
+        Self {
+            reader,
+            left,
+            failure,
+        }
+    }
+
     /// Fails at what was read last, which is no UTF-8, unless it has failed.
     pub(crate) fn refuse_text(&mut self)
         ensures reader { self.new.reader ≡ self.old.reader }
+        ensures ahead { self.new.ahead ≡ self.old.ahead }
         ensures failure { IsSome self.new.failure }
     {
         if self.failure.is_none() {
@@ -118,16 +144,14 @@ impl<R: BufRead> Source<u8> for ReadBytes<R>
 where
     R: Drop,
 {
-    ghost use Rattle.std.specs.Iterator.{at_most};
-    ghost use Rattle.std.specs.Prelude.{⊤};
-    ghost use Rattle.daachorse_haystack.specs.ByteSources.{MayRead-ready, MayRead-kept};
-    ghost use Rattle.daachorse_search.specs.Readers.{GivesByte, MayReadBytes};
+    ghost use Rattle.daachorse_search.specs.Readers.{MayReadBytes};
+    ghost use Rattle.daachorse_search.specs.ByteReaders.{MayReadBytes-ready, MayReadBytes-kept};
 
-    ghost may_read = { MayReadBytes R.remaining };
+    ghost may_read = { MayReadBytes };
 
-    ghost ready = { MayRead-ready (λ _. ⊤) (GivesByte R.remaining) (λ s. at_most s.left) };
+    ghost ready = { MayReadBytes-ready R.remaining };
 
-    ghost kept = { λ s read xs t may took fewer ready. MayRead-kept (λ _. ⊤) (GivesByte R.remaining) (λ s. at_most s.left) s read xs t _ may took fewer ready };
+    ghost kept = { λ s read xs t may took fewer ready. MayReadBytes-kept R.remaining s read xs t may took };
 }
 
 impl<R: BufRead> ReadSource<u8> for ReadBytes<R>

@@ -183,7 +183,7 @@ length_size width wide [] = omega arith
 length_size width wide (u ∷ w) = omega (arith, wide u, length_size width wide w)
 
 -- of two beginnings of a text the shorter takes less bytes
-size_shorter : (width : ℕ → ℕ) → ((u : ℕ) → 1 ≤ width u) → (a x b y : List ℕ) → a ++ x ≡ b ++ y → length a < length b → size width a < size width b
+pub size_shorter : (width : ℕ → ℕ) → ((u : ℕ) → 1 ≤ width u) → (a x b y : List ℕ) → a ++ x ≡ b ++ y → length a < length b → size width a < size width b
 size_shorter width wide a x b y e less =
     let r = split_after a x b y e (omega (arith, less)) in
     omega (arith, less, ap length r.1, length-append a r.0, ap (size width) r.1, size-append width a r.0, length_size width wide r.0)

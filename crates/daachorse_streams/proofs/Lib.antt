@@ -3,7 +3,9 @@ pub mod ScanLaws
 pub mod SearchingLaws
 pub mod GivingLaws
 pub mod StreamLaws
+pub mod PassingLaws
 pub mod ReadingLaws
+pub mod AdvancingLaws
 pub mod MarkLaws
 pub mod LateMatches
 pub mod GoesOutLaws

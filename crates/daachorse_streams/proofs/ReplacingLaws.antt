@@ -1,10 +1,12 @@
 -- The loop over a source: what it took so far is what its stream read, and went out but for what is held, where no match that is to come starts before it.
-use Rattle.std.proofs.Common.{◌≡◌, ℕ, ◌+◌, ◌-◌, ◌<◌, ◌≤◌, ◌^◌, inl, inr, Bool, List, [], ◌∷◌, ◌++◌, length, map, take, Option, Some, None, Result, refl, sym, ap, ◌∙◌, subst, append_assoc, append-nil, length-append, arith}
+use Rattle.std.proofs.Common.{◌≡◌, ℕ, ◌+◌, ◌-◌, ◌<◌, ◌≤◌, ◌^◌, inl, inr, Bool, List, [], ◌++◌, length, map, take, Option, None, Result, refl, sym, ap, ◌∙◌, subst, append_assoc, append-nil, length-append, arith}
 use Rattle.std.proofs.lemmas.List.{take_all}
 use Rattle.std.specs.Prelude.{flat_map}
+use Rattle.std.proofs.lemmas.Grind.{flat_map-append}
+use Rattle.std.proofs.lemmas.List.{map-append}
 use Rattle.std.specs.Borrow.{MutBor}
 use Rattle.std.specs.Io.KnownBytes.{Appends}
-use Rattle.std.specs.Iterator.{Count, MakesProgress}
+use Rattle.std.specs.Iterator.{Count, Yields}
 use Rattle.std.specs.declared.io.Error.{Error}
 use Rattle.daachorse_model.specs.declared.Match.{Match}
 use Rattle.daachorse_model.specs.Certain.{AreCertain, BeginEach}
@@ -14,15 +16,16 @@ use Rattle.daachorse_model.specs.Laws.{Follows}
 use Rattle.daachorse_model.specs.Leftmost.{leftmost}
 use Rattle.daachorse_model.specs.Units.{size}
 use Rattle.daachorse_model.proofs.Overlap.{Follows-earlier, leftmost_apart}
-use Rattle.daachorse_model.proofs.FoldLaws.{size-as_read}
+use Rattle.daachorse_model.proofs.FoldLaws.{as_read-append, size-as_read}
 use Rattle.daachorse_model.proofs.Suffixes.{size-append}
+use Rattle.daachorse_haystack.specs.ByteSources.{Yields_append}
 use Rattle.daachorse_haystack.specs.Sources.{IsReady}
 use Rattle.daachorse_replacing.specs.Replaced.{AppendsBeginning}
 use Rattle.daachorse_replacing.specs.ReplacedWith.{IsReplaced, IsReplacedSoFar}
 use Rattle.daachorse_replacing.specs.Streams.{GoesOutSettled, HasNoLonger, IsHeld, IsStreamed, IsStreamedSoFar}
 use Rattle.daachorse_replacing.proofs.HeldLaws.{held-count, held-first, held-more, held-past, held-whole, unheld-within}
 use Rattle.daachorse_replacing.proofs.LeadsOn.{AppendsBeginning-nothing, so_far_nothing}
-use Rattle.daachorse_replacing.proofs.GaveUnitsLaws.{GaveUnits, form_more, sized_unit, gave-first, gave-fits, gave-more}
+use Rattle.daachorse_replacing.proofs.GaveUnitsLaws.{GaveUnits, gave-first}
 use Rattle.daachorse_streams.specs.Replacing.{GoesOut, GoesOutSoFar}
 use Rattle.daachorse_streams.proofs.LateMatches.{late_matches}
 use Rattle.daachorse_streams.proofs.GoesOutLaws.{Follows-behind}
@@ -84,6 +87,12 @@ module _ {V P O F S U : Type 0} {bytes : P → List ℕ} {taken : O → Option (
 
   was_held : (done : List (Match V)) → done ≡ given → IsHeld bytes taken step first old (flat_map form h.units) done place held f out
   was_held done same = let P : List (Match V) → Type 0 = λ l. IsHeld bytes taken step first old (flat_map form h.units) l place held f out in subst P (sym same) h.is
+
+  pub goes-same : (ms : List (Match V)) (l : List ℕ) → ms ≡ given → l ≡ held → Goes bytes taken step first old can steps left failure unit form width K folds source read ms s place l f out
+  goes-same ms l gives holds =
+      let M : List (Match V) → Type 0 = λ x. Goes bytes taken step first old can steps left failure unit form width K folds source read x s place l f out in
+      let L : List ℕ → Type 0 = λ x. Goes bytes taken step first old can steps left failure unit form width K folds source read given s place x f out in
+      subst M (sym gives) (subst L (sym holds) h)
 
   -- the certain matches went out
   pub goes-out : {done more : List (Match V)} {next : ℕ} {rest : List ℕ} {g : F} {new : O} → done ≡ given → GoesOut bytes taken step done more place held f out next rest g new
@@ -149,37 +158,41 @@ module _ {V P O F S U : Type 0} {bytes : P → List ℕ} {taken : O → Option (
         stops-before n new rest.0 rest.1 (late n many [] rest.0 (ap (leftmost width K) (append-nil read) ∙ rest.1)) part
 
   module _ (as_wide : (u : ℕ) → width (folded_unit u) ≡ width u) where
-    -- the place behind the next unit fits
-    pub goes-fits : (u : U) (t : S) → steps s (Some u) t → MakesProgress can left s (Some u) t → size width read + width (unit u) < 2 ^ 64
-    goes-fits u t took goes = gave-fits can steps left unit width folds source as_wide h.gave u t took goes
-
-    -- so do the places of the bytes held
+    -- the places of the bytes held fit
     pub goes-inside : place + length held < 2 ^ 64
     goes-inside = omega (arith, goes-count, ap (size width) h.gave.is, size-as_read width as_wide folds (map unit h.units), h.gave.ready.fits [] s refl)
 
-    -- one unit more
-    pub goes-more : (u : U) (t : S) (after more : List ℕ) (later : List (Match V)) → later ≡ given → steps s (Some u) t → MakesProgress can left s (Some u) t → length (form u) ≡ width (unit u)
-        → after ≡ read ++ as_read folds (unit u ∷ []) → more ≡ held ++ form u → Goes bytes taken step first old can steps left failure unit form width K folds source after later t place more f out
-    goes-more u t after more later same took goes long reads holds =
-        let one = as_read folds (unit u ∷ []) in
+    -- more units came
+    pub goes-more : (units : List U) (t : S) (after more : List ℕ) (later : List (Match V)) → later ≡ given → Yields steps s units t → IsReady can steps left unit width t (size width after) → length (flat_map form units) ≡ size width (map unit units)
+        → after ≡ read ++ as_read folds (map unit units) → more ≡ held ++ flat_map form units → Goes bytes taken step first old can steps left failure unit form width K folds source after later t place more f out
+    goes-more units t after more later same took ready long reads holds =
+        let come = as_read folds (map unit units) in
+        let all : after ≡ as_read folds (map unit (h.units ++ units)) =
+        reads ∙ ap (λ l. l ++ come) h.gave.is ∙ sym (as_read-append folds (map unit h.units) (map unit units)) ∙ ap (as_read folds) (sym (map-append unit h.units units)) in
+        let R : ℕ → Type 0 = λ n. IsReady can steps left unit width t n in
         record {
-          units = h.units ++ u ∷ [];
-          gave = gave-more can steps left unit width folds source as_wide h.gave u t after took goes reads;
+          units = h.units ++ units;
+          gave = record {
+            took = Yields_append steps source h.units s units t h.gave.took took;
+            ready = subst R (ap (size width) all ∙ size-as_read width as_wide folds (map unit (h.units ++ units))) ready;
+            is = all;
+          };
           sized =
               omega (
                 arith,
                 h.sized,
-                ap length (form_more form h.units u),
-                length-append (flat_map form h.units) (form u),
-                sized_unit unit form width as_wide folds u long,
+                ap length (flat_map-append form h.units units),
+                length-append (flat_map form h.units) (flat_map form units),
+                long,
+                size-as_read width as_wide folds (map unit units),
                 ap (size width) reads,
-                size-append width read one,
+                size-append width read come,
               );
           is =
               let T : List ℕ → Type 0 = λ l. IsHeld bytes taken step first old l later place more f out in
-              let H : List ℕ → Type 0 = λ l. IsHeld bytes taken step first old (flat_map form h.units ++ form u) later place l f out in
-              subst T (sym (form_more form h.units u)) (subst H (sym holds) (held-more bytes taken step first old (was_held later same) (form u)));
-          behind = λ d rest is. h.behind (one ++ d) rest (ap (leftmost width K) (sym (append_assoc read one d) ∙ ap (λ l. l ++ d) (sym reads)) ∙ is ∙ ap (λ l. l ++ rest) same);
+              let H : List ℕ → Type 0 = λ l. IsHeld bytes taken step first old (flat_map form h.units ++ flat_map form units) later place l f out in
+              subst T (sym (flat_map-append form h.units units)) (subst H (sym holds) (held-more bytes taken step first old (was_held later same) (flat_map form units)));
+          behind = λ d rest is. h.behind (come ++ d) rest (ap (leftmost width K) (sym (append_assoc read come d) ∙ ap (λ l. l ++ d) (sym reads)) ∙ is ∙ ap (λ l. l ++ rest) same);
         }
 
   module _ (all : given ≡ leftmost width K read) where

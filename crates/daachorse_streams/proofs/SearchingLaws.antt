@@ -7,7 +7,7 @@ use Rattle.daachorse_model.specs.declared.Match.{Match}
 use Rattle.daachorse_model.specs.Units.{size}
 use Rattle.daachorse_model.specs.Leftmost.{leftmost, leftmost_from}
 use Rattle.daachorse_model.proofs.Suffixes.{size-append, size-push, IsSuffix-length}
-use Rattle.daachorse_search.specs.BestScans.{HasNoLongerKey}
+use Rattle.daachorse_replacing.specs.Streams.{HasNoLonger}
 use Rattle.daachorse_search.specs.Views.{AutomatonView}
 use Rattle.daachorse_streams.specs.declared.scan.Scan.{Scan}
 use Rattle.daachorse_streams.specs.declared.search.Search.{Search}
@@ -82,7 +82,7 @@ module _ {V : Type 0} (width : ℕ → ℕ) (view : AutomatonView V) where
           let stood : IsIdle width view (size width is.passed) is.w s.scan is.behind = subst S skips is.stands in
           let place : s.scan.place + width (unit x) ≡ size width (is.passed ++ unit x ∷ []) = omega (arith, stood.place, size-push width is.passed (unit x)) in
           let front : map unit ring.items ≡ next.more = ap (map unit) items ∙ ap (λ b. map unit (drop (length b + 1) s.ring.items)) (sym stood.none_behind) ∙ next.rest_is in
-          let C : ℕ → Type 0 = λ n. HasNoLongerKey view.content n in
+          let C : ℕ → Type 0 = λ n. HasNoLonger width view.content n in
           let B : ℕ → Type 0 = λ n. IsScan width view n [] scan [] in
           record {
             kind = is.kind;
@@ -122,7 +122,7 @@ module _ {V : Type 0} (width : ℕ → ℕ) (view : AutomatonView V) where
           → (scan : Scan) → IsScan width view (size width is.passed) (is.w ++ unit x ∷ []) scan behind → (turns : ℕ) → turns + depth view scan ≤ s.turns + depth view s.scan + 2
           → IsSearching width view unit (record { ring = ring; walked = walked; scan = scan; skips = s.skips; after = s.after; ended = s.ended; turns = turns; seen = s.seen })
       one_read scans ring walked behind front counts capacity scan on turns most =
-          let C : ℕ → Type 0 = λ n. HasNoLongerKey view.content n in
+          let C : ℕ → Type 0 = λ n. HasNoLonger width view.content n in
           let S : Bool → Type 0 = λ b. Stands width view b (size width is.passed) (is.w ++ unit x ∷ []) scan behind in
           let whole : is.w ++ is.ahead ≡ (is.w ++ unit x ∷ []) ++ next.more = ap (λ y. is.w ++ y) next.ahead_is ∙ sym (append_assoc is.w (unit x ∷ []) next.more) in
           record {

@@ -44,7 +44,7 @@ module _ (width : ℕ → ℕ) (wide : (u : ℕ) → 1 ≤ width u) where
 
 module _ {V : Type 0} (width : ℕ → ℕ) (wide : (u : ℕ) → 1 ≤ width u) (view : AutomatonView V) {U ALLOC : Type 0} (unit : U → ℕ) where
   -- nothing was read yet
-  pub begun : IsLeftmostView view → (ring : VecDeque U ALLOC) → ring.items ≡ [] → 0 < deque_capacity ring → HasNoLongerKey view.content (deque_capacity ring)
+  pub begun : IsLeftmostView view → (ring : VecDeque U ALLOC) → ring.items ≡ [] → 0 < deque_capacity ring → HasNoLonger width view.content (deque_capacity ring)
       → (scan : Scan) → IsScan width view 0 [] scan [] → (turns : ℕ) → turns ≡ 0 → (seen : SeenUnits) → seen ≡ unread
       → IsSearching width view unit (record { ring = ring; walked = 0; scan = scan; skips = false; after = false; ended = false; turns = turns; seen = seen })
   begun kind ring none room longest scan begins turns no_turns seen nothing =
@@ -72,7 +72,7 @@ module _ {V : Type 0} (width : ℕ → ℕ) (wide : (u : ℕ) → 1 ≤ width u)
     abbrev from : ℕ
     from = size width is.passed
 
-    none_ahead : s.walked ≡ length s.ring.items → is.ahead ≡ []
+    pub none_ahead : s.walked ≡ length s.ring.items → is.ahead ≡ []
     none_ahead all = nil_from_length is.ahead (omega (arith, all, is.walked, ap length is.ring, length-map s.ring.items unit, length-append is.behind is.ahead))
 
     -- where nothing waits, all units were read and nothing is decided
@@ -102,7 +102,7 @@ module _ {V : Type 0} (width : ℕ → ℕ) (wide : (u : ℕ) → 1 ≤ width u)
 
             short : HasChild view.content t → length is.behind < deque_capacity s.ring
             short (u, inl empty) = absurd (omega (arith, ap length empty, length-append t (u ∷ [])))
-            short (u, inr (x, key)) = omega (arith, near, is.longest ((t ++ u ∷ []) ++ x) key, length-append (t ++ u ∷ []) x, length-append t (u ∷ []))
+            short (u, inr (x, key)) = omega (arith, near, units_within width wide is.longest ((t ++ u ∷ []) ++ x) key, length-append (t ++ u ∷ []) x, length-append t (u ∷ []))
 
         best_behind : (best : Option Pending) → IsSteady view.content is.w (view.text s.scan.state) → IsPendingSoFar width view from is.w (view.text s.scan.state) best false is.behind → length is.behind < deque_capacity s.ring
         best_behind None steady pending = omega (arith, is.room, ap length pending.2)
@@ -124,7 +124,7 @@ module _ {V : Type 0} (width : ℕ → ℕ) (wide : (u : ℕ) → 1 ≤ width u)
         searches : IsSearching width view unit (record { ring = ring; walked = s.walked; scan = s.scan; skips = s.skips; after = s.after; ended = s.ended; turns = s.turns; seen = seen })
         searches =
             let u : ℕ = unit x in
-            let C : ℕ → Type 0 = λ n. HasNoLongerKey view.content n in
+            let C : ℕ → Type 0 = λ n. HasNoLonger width view.content n in
             record {
               kind = is.kind;
               passed = is.passed;

@@ -1,3 +1,4 @@
+pub mod Advancing
 pub mod Children
 pub mod LeftmostReading
 pub mod Marked

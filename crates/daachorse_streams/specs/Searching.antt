@@ -1,11 +1,11 @@
 -- A leftmost search that is given its haystack unit by unit: where it stands between two calls.
-use Rattle.std.specs.Prelude.{◌≡◌, ℕ, ◌+◌, ◌^◌, ◌<◌, Bool, true, false, cond, nat_lt, List, [], ◌∷◌, ◌++◌, length, map, take, None}
+use Rattle.std.specs.Prelude.{◌≡◌, ℕ, ◌+◌, ◌^◌, ◌<◌, ◌≤◌, Bool, true, false, cond, nat_lt, List, [], ◌∷◌, ◌++◌, length, map, take, None}
 use Rattle.std.specs.VecDeque.{deque_capacity}
 use Rattle.daachorse_model.specs.declared.Match.{Match}
 use Rattle.daachorse_model.specs.Units.{size}
 use Rattle.daachorse_model.specs.Dictionary.{Dictionary}
 use Rattle.daachorse_model.specs.Leftmost.{leftmost, leftmost_from}
-use Rattle.daachorse_search.specs.BestScans.{HasNoLongerKey}
+use Rattle.daachorse_replacing.specs.Streams.{HasNoLonger}
 use Rattle.daachorse_search.specs.LeftmostSearches.{IsWithin}
 use Rattle.daachorse_search.specs.Views.{AutomatonView, IsLeftmostView}
 use Rattle.daachorse_streams.specs.declared.scan.Scan.{Scan}
@@ -21,6 +21,10 @@ abbrev pub passed_over : Bool → List ℕ → ℕ
 passed_over false ahead = 0
 passed_over true [] = 0
 passed_over true (u ∷ ahead) = 1
+
+-- the scan stands at the root, and nothing is pending
+abbrev pub IsAtRoot : {V U ALLOC : Type 0} → AutomatonView V → Search U ALLOC → Type 0
+IsAtRoot view s = (s.skips ≡ false) × (s.scan.best ≡ None) × (view.text s.scan.state ≡ [])
 
 module _ {V : Type 0} (width : ℕ → ℕ) (view : AutomatonView V) where
   -- no scan has begun yet: one unit is passed over first
@@ -53,8 +57,32 @@ module _ {V : Type 0} (width : ℕ → ℕ) (view : AutomatonView V) where
       pub left : (d : List ℕ) → (s.ended ≡ true → d ≡ []) → leftmost width view.content (s.seen.since ++ d) ≡ gave ++ leftmost_from width view.content (size width passed) (cond s.skips 1 0) s.after ((w ++ ahead) ++ d)
       pub most : IsWithin width view.content (length passed + length w + passed_over s.skips ahead) s.after (s.turns + depth view s.scan) s.seen.given
       pub room : 0 < deque_capacity s.ring
-      pub longest : HasNoLongerKey view.content (deque_capacity s.ring)
+      pub longest : HasNoLonger width view.content (deque_capacity s.ring)
       pub fits : size width s.seen.since < 2 ^ 64
+
+-- the units in `front` are left to read, behind those that were
+pub record Keeps {U ALLOC : Type 0} (unit : U → ℕ) (s : Search U ALLOC) (front : List ℕ) (t : Search U ALLOC) : Type 0 where
+  pub ring : map unit t.ring.items ≡ map unit s.ring.items ++ front
+  pub capacity : deque_capacity t.ring ≡ deque_capacity s.ring
+  pub read : t.seen.since ≡ s.seen.since ++ front
+  pub given : t.seen.given ≡ s.seen.given
+  pub same : t ≡ record s { ring = t.ring; seen = t.seen }
+
+-- The units in `over` count as read. From each of them to the end of `tail`, which comes next, there are at least as many bytes as the ring has room for units.
+pub record PassesOver {U ALLOC : Type 0} (width : ℕ → ℕ) (s : Search U ALLOC) (over tail : List ℕ) (t : Search U ALLOC) : Type 0 where
+  pub far : (a : List ℕ) (u : ℕ) (b : List ℕ) → over ≡ a ++ u ∷ b → deque_capacity s.ring ≤ size width ((u ∷ b) ++ tail)
+  pub read : t.seen.since ≡ s.seen.since ++ over
+  pub given : t.seen.given ≡ s.seen.given
+  pub same : t ≡ record s { scan = record s.scan { place = s.scan.place + size width over }; seen = t.seen }
+
+-- the units in `front` were taken: the first were passed over, and the last are left to read
+pub record TakesFront {U ALLOC : Type 0} (width : ℕ → ℕ) (unit : U → ℕ) (s : Search U ALLOC) (front : List ℕ) (t : Search U ALLOC) : Type 0 where
+  pub over : List ℕ
+  pub tail : List ℕ
+  pub parts : front ≡ over ++ tail
+  pub between : Search U ALLOC
+  pub passes : PassesOver width s over tail between
+  pub keeps : Keeps unit between tail t
 
 module _ {U ALLOC : Type 0} where
   -- what reading on leaves as it is

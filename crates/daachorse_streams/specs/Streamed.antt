@@ -1,9 +1,10 @@
 -- A leftmost search that is given its haystack unit by unit, as its callers see it.
-use Rattle.std.specs.Prelude.{◌≡◌, ℕ, Bool, true, false, List}
+use Rattle.std.specs.Prelude.{◌≡◌, ℕ, ◌<◌, Bool, true, false, List, ◌++◌}
 use Rattle.daachorse_model.specs.declared.Match.{Match}
 use Rattle.daachorse_model.specs.Certain.{AreCertain}
 use Rattle.daachorse_model.specs.Dictionary.{Dictionary}
 use Rattle.daachorse_model.specs.Leftmost.{leftmost}
+use Rattle.daachorse_model.specs.Units.{size}
 
 pub record LeftmostStreamed (V A : Type 0) : Type 0 where
   pub automaton : A
@@ -29,3 +30,12 @@ pub record IsSettled {V A : Type 0} (width : ℕ → ℕ) (K : Dictionary V) (ol
   pub quiet : new.waiting ≡ false
   pub certain : new.ended ≡ false → AreCertain width K new.read new.given
   pub all : new.ended ≡ true → new.given ≡ leftmost width K new.read
+
+-- So many bytes of a block that comes next were read. No match begins in them, and none before them is left to give.
+pub record HasSkipped {V A : Type 0} (width : ℕ → ℕ) (K : Dictionary V) (old : LeftmostStreamed V A) (block : List ℕ) (bytes : ℕ) (new : LeftmostStreamed V A) : Type 0 where
+  pub front : List ℕ
+  pub back : List ℕ
+  pub parts : block ≡ front ++ back
+  pub ends : bytes ≡ size width front
+  pub read : new.read ≡ old.read ++ front
+  pub clear : 0 < bytes → leftmost width K new.read ≡ old.given

@@ -5,20 +5,23 @@ ghost use Rattle.daachorse_model.specs.Certain.{BeginEach};
 ghost use Rattle.daachorse_model.specs.Folding.{as_read};
 ghost use Rattle.daachorse_model.specs.Leftmost.{leftmost};
 ghost use Rattle.daachorse_model.specs.Units.{size};
+ghost use Rattle.daachorse_haystack.specs.Filters.{IsSoundFor};
 ghost use Rattle.daachorse_search.specs.BestScans.{HasNoLongerKey};
 ghost use Rattle.daachorse_search.specs.Views.{IsLeftmostView};
 ghost use Rattle.daachorse_streams.specs.Marked.{BeginsStreaming, IsMarkedFor};
 ghost use Rattle.daachorse_streams.specs.Standings.{IsLeftmostStanding, streamed_by};
-ghost use Rattle.daachorse_streams.specs.Streamed.{IsSameStream, IsSettled};
+ghost use Rattle.daachorse_streams.specs.Streamed.{HasSkipped, IsSameStream, IsSettled};
 
 use crate::leftmost_standing::LeftmostStanding;
 use crate::scan::begin;
-use crate::search::{Search, give, walk};
+use crate::search::{Search, give, is_at_root, walk};
 use crate::stream_marks::StreamMarks;
 use daachorse_core::Match;
 use daachorse_core::ascii_fold::AsciiFold;
 use daachorse_core::edge_label::EdgeLabel;
 use daachorse_core::turns::{Seen, Turns};
+use daachorse_haystack::filter::Filter;
+use daachorse_haystack::haystack::Haystack;
 use daachorse_search::automaton::Automaton;
 use std::alloc::{AllocError, Allocator};
 use std::collections::VecDeque;
@@ -130,6 +133,14 @@ impl<'a, V: Copy, A: Automaton<V>, ALLOC: Allocator> LeftmostStream<'a, V, A, AL
         }
     }
 
+    /// Whether units are read folded.
+    #[inline(always)]
+    pub fn folds(&self) -> bool
+        ensures { result ≡ self.now.folds }
+    {
+        self.folds
+    }
+
     /// The number of bytes consumed. It goes over the units that are still to read: none, if all
     /// certain matches were asked for.
     #[inline(always)]
@@ -166,6 +177,54 @@ impl<'a, V: Copy, A: Automaton<V>, ALLOC: Allocator> LeftmostStream<'a, V, A, AL
         let read = as_given(unit, self.folds);
         self.search.ring.push_back_reserved(read);
         self.search.seen.push(read.code());
+    }
+
+    /// Whether [`Self::skip`] would ask the filter. It is for speed alone.
+    #[inline(always)]
+    pub fn asks<H: Haystack<A::Unit>, F: Filter<A::Unit, H>>(&self, filter: &F) -> bool {
+        is_at_root(&self.automaton, &self.search) && filter.is_open()
+    }
+
+    /// Consumes the units of a block that comes next, as they are to be read, up to the first place
+    /// at which the filter passes, and returns how many bytes they are. No match begins in them.
+    ///
+    /// It consumes none where a match may have begun before the block, or the filter is closed.
+    /// The last of the units, in fewer bytes than the longest pattern has, are still to read, so
+    /// certain matches have to be asked for again.
+    ///
+    /// # Conditions
+    /// All certain matches were asked for, the haystack has not ended, the place after the block
+    /// fits, and the filter passes at each pattern of the automaton.
+    #[inline(always)]
+    pub fn skip<H: Haystack<A::Unit>, F: Filter<A::Unit, H>>(
+        &mut self,
+        filter: &mut F,
+        block: H,
+    ) -> usize
+        requires taken { self.old.waiting ≡ false }
+        requires open { self.old.ended ≡ false }
+        requires fits { size A.Unit.width self.old.read + size A.Unit.width (H.rest block) < 2 ^ 64 }
+        requires sound { IsSoundFor (F.passes filter.old) (A.sees self.old.automaton).content }
+        ensures passes { (w : List ℕ) → F.passes filter.new w ≡ F.passes filter.old w }
+        ensures automaton { self.new.automaton ≡ self.old.automaton }
+        ensures folds { self.new.folds ≡ self.old.folds }
+        ensures skipped { HasSkipped A.Unit.width (A.sees self.old.automaton).content self.old (H.rest block) result self.new }
+        ensures none { result ≡ 0 → self.new ≡ self.old }
+        ensures given { self.new.given ≡ self.old.given }
+        ensures ended { self.new.ended ≡ false }
+        ensures turns { self.new.turns ≡ self.old.turns }
+    {
+        if !is_at_root(&self.automaton, &self.search) || !filter.is_open() {
+            return 0;
+        }
+        let mut later = block.after(0);
+        filter.skip(&mut later);
+        let bytes = block.left() - later.left();
+        if bytes == 0 {
+            return 0;
+        }
+        self.search.pass_over(block, bytes);
+        bytes
     }
 
     /// Ends the haystack: all matches that are left are certain now.

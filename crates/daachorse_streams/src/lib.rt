@@ -1,6 +1,7 @@
 //! Leftmost matches in what is given unit by unit, each as soon as it is certain.
 #![tactic(auto)]
 
+pub mod block_source;
 pub mod leftmost_from_reader;
 pub mod leftmost_standing;
 pub mod leftmost_stream;

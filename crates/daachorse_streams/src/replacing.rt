@@ -5,22 +5,24 @@ ghost use Rattle.daachorse_model.specs.Folding.{as_read};
 ghost use Rattle.daachorse_model.specs.Laws.{Follows};
 ghost use Rattle.daachorse_model.specs.Leftmost.{leftmost};
 ghost use Rattle.daachorse_model.specs.Units.{size};
+ghost use Rattle.daachorse_haystack.specs.Filters.{IsSoundFor};
 ghost use Rattle.daachorse_search.specs.Views.{IsLeftmostView};
 ghost use Rattle.daachorse_replacing.specs.Streams.{IsStreamed, IsStreamedSoFar};
 ghost use Rattle.daachorse_streams.specs.Marked.{IsMarkedFor};
 ghost use Rattle.daachorse_streams.specs.Replacing.{GoesOut, GoesOutSoFar};
 ghost use Rattle.daachorse_streams.specs.Streamed.{IsSameStream, IsSettled};
 
+use crate::block_source::BlockSource;
 use crate::leftmost_stream::LeftmostStream;
 use crate::stream_marks::StreamMarks;
 use daachorse_core::Match;
 use daachorse_core::edge_label::EdgeLabel;
+use daachorse_prefilter::skipping::Skipping;
 use daachorse_replacing::appending::write_whole;
 use daachorse_replacing::streaming::{ROOM, drop_first, put_out_settled};
 use daachorse_search::automaton::Automaton;
-use daachorse_search::reader::ReadSource;
 use daachorse_search::step_unit::StepUnit;
-use std::alloc::Allocator;
+use std::alloc::{Allocator, Global};
 use std::io::{self, Write};
 
 /// The bytes that were taken and have not gone out.
@@ -31,21 +33,11 @@ struct Held<B: Allocator> {
     bytes: Vec<u8, B>,
 }
 
-/// Puts out what the source gives, in place of each leftmost match what `write` appends for it and
-/// its bytes, as soon as the match is certain.
-///
-/// Holds at most as many bytes as the longest pattern has, a block of 64 KiB and a unit, and as many
-/// units that it may have to read again. It allocates twice, before it reads.
-///
-/// Stops at the first error, of an allocation, the source, `out` or `write`.
-///
-/// # Conditions
-/// The automaton is for leftmost searches, the marks are its own, and the source may be read. The
-/// closure may be called at any match, any bytes and any output.
+/// [`replace_leftmost_skipping`] with no prefilter.
 pub fn replace_leftmost_from<
     V: Copy,
     A: Automaton<V>,
-    S: ReadSource<A::Unit>,
+    S: BlockSource<A::Unit>,
     O: Write,
     F: FnMut(Match<V>, &[u8], &mut O) -> io::Result<()> + Drop,
     B: Allocator + Copy,
@@ -54,7 +46,54 @@ pub fn replace_leftmost_from<
     automaton: A,
     marks: &StreamMarks<C>,
     folds: bool,
+    source: S,
+    alloc: B,
+    out: &mut O,
+    write: F,
+) -> io::Result<()>
+where
+    A::Unit: StepUnit,
+    requires kind { IsLeftmostView (A.sees automaton) }
+    requires marks { IsMarkedFor A.Unit.width (A.sees automaton) marks.now }
+    requires may { S.Source.may_read source [] }
+    requires callable { F.IsAlwaysCallable write }
+    ensures whole { OnOk result (IsStreamed (λ s. s.now) O.contents F.step S.next_gives S.failure A.Unit.unit A.Unit.form
+        (λ units. leftmost A.Unit.width (A.sees automaton).content (as_read folds units)) source write out.old out.new) }
+    ensures beginning { OnErr result (IsStreamedSoFar (λ s. s.now) O.contents F.step S.next_gives S.failure A.Unit.unit A.Unit.form
+        (λ units. leftmost A.Unit.width (A.sees automaton).content (as_read folds units)) source write out.old out.new) }
+{
+    let skipping = Skipping::<Global>::new(None);
+    replace_leftmost_skipping(automaton, marks, folds, source, skipping, alloc, out, write)
+}
+
+/// Puts out what the source gives, in place of each leftmost match what `write` appends for it and
+/// its bytes, as soon as the match is certain. Passes over what the prefilter passes over of each
+/// block that the source's reader has at hand.
+///
+/// Holds at most as many bytes as the longest pattern has, a block of 64 KiB and a unit, and as many
+/// units that it may have to read again. It allocates twice, before it reads.
+///
+/// Stops at the first error, of an allocation, the source, `out` or `write`.
+///
+/// # Conditions
+/// The automaton is for leftmost searches, the marks are its own, the source may be read, and the
+/// prefilter lets pass at each pattern. The closure may be called at any match, any bytes and any
+/// output.
+pub fn replace_leftmost_skipping<
+    V: Copy,
+    A: Automaton<V>,
+    S: BlockSource<A::Unit>,
+    O: Write,
+    F: FnMut(Match<V>, &[u8], &mut O) -> io::Result<()> + Drop,
+    B: Allocator + Copy,
+    C: Allocator,
+    D: Allocator,
+>(
+    automaton: A,
+    marks: &StreamMarks<C>,
+    folds: bool,
     mut source: S,
+    mut skipping: Skipping<'_, D>,
     alloc: B,
     out: &mut O,
     mut write: F,
@@ -64,6 +103,7 @@ where
     requires kind { IsLeftmostView (A.sees automaton) }
     requires marks { IsMarkedFor A.Unit.width (A.sees automaton) marks.now }
     requires may { S.Source.may_read source [] }
+    requires sound { IsSoundFor (S.BlockSource.passes skipping) (A.sees automaton).content }
     requires callable { F.IsAlwaysCallable write }
     ensures whole { OnOk result (IsStreamed (λ s. s.now) O.contents F.step S.next_gives S.failure A.Unit.unit A.Unit.form
         (λ units. leftmost A.Unit.width (A.sees automaton).content (as_read folds units)) source write out.old out.new) }
@@ -77,18 +117,16 @@ where
     'units: loop {
         replace_certain(&mut stream, &mut held, out, &mut write)?;
         held.place += put_out_settled(longest, &mut held.bytes, out)?;
-        let Some(unit) = source.next() else {
+        let (behind, some) = source.advance(&mut stream, &mut skipping, &mut held.bytes)?;
+        source = behind;
+        if !some {
             if let Some(error) = source.into_failure() {
                 return Err(error);
             }
             stream.end();
             replace_certain(&mut stream, &mut held, out, &mut write)?;
             return write_whole(out, &held.bytes);
-        };
-        // The bytes of a unit are as many as it is wide.
-        unit.in_range();
-        unit.append_to(&mut held.bytes)?;
-        stream.consume(unit);
+        }
     }
 }
 

@@ -1,15 +1,17 @@
 //! Where a leftmost search stands that is given its haystack unit by unit: scans, each from where
 //! the last one ended, over the units that may have to be read again.
 
-ghost use Rattle.std.specs.Prelude.{◌≡◌, ◌+◌, ◌<◌, ◌≤◌, ◌++◌, ◌∷◌, [], ◌⊎◌, None, Some, IfSome, MatchOption, true, false, drop};
+ghost use Rattle.std.specs.Prelude.{◌≡◌, ℕ, ◌+◌, ◌<◌, ◌≤◌, ◌^◌, List, ◌++◌, ◌∷◌, [], ◌⊎◌, None, Some, IfSome, IsTrue, MatchOption, true, false, drop};
 ghost use Rattle.std.specs.VecDeque.{deque_capacity, deque_len};
+ghost use Rattle.daachorse_model.specs.Units.{size};
 ghost use Rattle.daachorse_streams.specs.Children.{HasMarks};
-ghost use Rattle.daachorse_streams.specs.Searching.{IsSearching, ReadsTheSame, WalksOn, given_of};
+ghost use Rattle.daachorse_streams.specs.Searching.{IsAtRoot, IsSearching, Keeps, ReadsTheSame, TakesFront, WalksOn, given_of};
 
 use crate::scan::{Pending, Scan, advance, begin, idle};
 use daachorse_core::Match;
 use daachorse_core::edge_label::EdgeLabel;
 use daachorse_core::turns::{Seen, Turns};
+use daachorse_haystack::haystack::Haystack;
 use daachorse_search::automaton::Automaton;
 use std::alloc::Allocator;
 use std::collections::VecDeque;
@@ -131,7 +133,60 @@ pub(crate) fn give<V: Copy, A: Automaton<V>, ALLOC: Allocator>(
     Some(found)
 }
 
+/// Whether the scan stands at the root, with no match.
+#[inline(always)]
+pub(crate) fn is_at_root<V: Copy, A: Automaton<V>, ALLOC: Allocator>(
+    automaton: &A,
+    search: &Search<A::Unit, ALLOC>,
+) -> bool
+    requires stands { IsSearching A.Unit.width (A.sees automaton.now) A.Unit.unit search.now }
+    ensures { IsTrue result → IsAtRoot (A.sees automaton.now) search.now }
+{
+    !search.skips && search.scan.best.is_none() && automaton.is_root(search.scan.state)
+}
+
 impl<U: EdgeLabel, ALLOC: Allocator> Search<U, ALLOC> {
+    /// Takes the first bytes of a block, which are whole units. Passes over each unit from which
+    /// the longest pattern ends within these bytes, and keeps the others to read.
+    #[inline(always)]
+    pub(crate) fn pass_over<H: Haystack<U>>(&mut self, mut block: H, bytes: usize)
+        requires units { (front : List ℕ) × (back : List ℕ) × (H.rest block ≡ front ++ back) × (bytes ≡ size U.width front) }
+        requires none { self.old.ring.items ≡ [] }
+        requires room { 0 < deque_capacity self.old.ring }
+        requires fits { self.old.scan.place + bytes < 2 ^ 64 }
+        ensures { (front back : List ℕ) → H.rest block ≡ front ++ back → bytes ≡ size U.width front → TakesFront U.width U.unit self.old front self.new }
+    {
+        let longest = self.ring.capacity();
+        let mut left = bytes;
+        'units: while left >= longest {
+            let Some(unit) = block.next() else {
+                return;
+            };
+            self.scan.place += unit.num_bytes();
+            self.seen.push(unit.code());
+            left -= unit.num_bytes();
+        }
+        self.keep(block, left);
+    }
+
+    /// Takes the first bytes of a block, which are whole units, and keeps them to read.
+    #[inline(always)]
+    fn keep<H: Haystack<U>>(&mut self, mut block: H, bytes: usize)
+        requires units { (front : List ℕ) × (back : List ℕ) × (H.rest block ≡ front ++ back) × (bytes ≡ size U.width front) }
+        requires room { deque_len self.old.ring + bytes ≤ deque_capacity self.old.ring }
+        ensures { (front back : List ℕ) → H.rest block ≡ front ++ back → bytes ≡ size U.width front → Keeps U.unit self.old front self.new }
+    {
+        let mut left = bytes;
+        'units: while left > 0 {
+            let Some(unit) = block.next() else {
+                return;
+            };
+            self.ring.push_back_reserved(unit);
+            self.seen.push(unit.code());
+            left -= unit.num_bytes();
+        }
+    }
+
     /// The best match, if it is certain: where it is decided, and at the end of the haystack.
     #[inline(always)]
     pub(crate) fn certain(&self) -> Option<Pending>

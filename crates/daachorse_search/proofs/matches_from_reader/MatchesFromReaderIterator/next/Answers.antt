@@ -1,7 +1,6 @@
 -- The search ended, and its source tells why.
-use Rattle.std.proofs.Common.{◌≡◌, Some, None, Err, ap, ◌∙◌, sym, subst, rules, IfSome}
+use Rattle.std.proofs.Common.{◌≡◌, Some, None, Err, ap, ◌∙◌, sym, rules}
 use Rattle.std.specs.Option.{option_map}
-use Rattle.daachorse_search.specs.Readers.{IsLasting}
 use Rattle.daachorse_search.proofs.ReaderLaws.{GivesRead-last}
 use Rattle.daachorse_search.proofs.matches_from_reader.MatchesFromReaderIterator.next.Goals as goal
 

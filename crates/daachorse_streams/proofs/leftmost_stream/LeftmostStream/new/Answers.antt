@@ -1,7 +1,7 @@
 -- A search begins with a scan of nothing, and with room for as many units as the longest key has.
 use Rattle.std.proofs.Common.{◌<◌, ◌≤◌, sym, subst, arith}
 use Rattle.daachorse_streams.specs.Children.{HasMarks}
-use Rattle.daachorse_streams.proofs.StreamLaws.{begun, units_within}
+use Rattle.daachorse_streams.proofs.StreamLaws.{begun}
 use Rattle.daachorse_streams.proofs.leftmost_stream.LeftmostStream.new.Goals as goal
 use Rattle.daachorse_streams.proofs.leftmost_stream.LeftmostStream.new.Goals.{then-longest-eq0, else-longest-eq0}
 
@@ -14,5 +14,5 @@ invariant_of-result g c =
     ] in (
       subst (λ marks. HasMarks (g.A.Automaton.sees c.args.automaton) marks) (sym c.deref-marks.ensures.value) c.requires.marks.children,
       begun unit.width wide (g.A.Automaton.sees c.args.automaton) unit.unit c.requires.kind made.ring made.ensures.items (omega (arith, room.0, made.ensures.exact))
-          (λ k key. omega (arith, units_within unit.width wide c.requires.marks.longest k key, room.1, made.ensures.exact)) c.begin-scan.result c.begin-scan.ensures c.new.result c.new.ensures c.new-2.result c.new-2.ensures,
+          (λ k key. omega (arith, c.requires.marks.longest k key, room.1, made.ensures.exact)) c.begin-scan.result c.begin-scan.ensures c.new.result c.new.ensures c.new-2.result c.new-2.ensures,
     )

@@ -1,3 +1,2 @@
 mod FirstReads
 mod FromText
-mod Steps

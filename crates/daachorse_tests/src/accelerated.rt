@@ -2,9 +2,10 @@
 
 use crate::automata::{Automaton, Bytewise, Charwise};
 use crate::expect;
-use crate::replaced::{bracket, bracket_text, instead, instead_of_text, write_bracketed};
-use crate::rows::{BUILT, FOLDING, Search, Way};
+use crate::replaced::{bracket, bracket_text, instead, instead_of_text};
 use daachorse::{DoubleArrayAhoCorasick, MatchKind, Result};
+use daachorse_expected::rows::{BUILT, FOLDING, Search, Way};
+use daachorse_expected::writers::write_bracketed;
 use std::alloc::Global;
 use std::test::Fail;
 

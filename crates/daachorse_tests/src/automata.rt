@@ -1,9 +1,9 @@
 //! What the tests ask of an automaton, over bytes or over characters.
 
-use crate::finding::Found;
-use crate::rows::{Read, Search, Way};
 use daachorse::errors::DaachorseError;
 use daachorse::{CharwiseDoubleArrayAhoCorasick, DoubleArrayAhoCorasick, Match, MatchKind, Result};
+use daachorse_expected::finding::Found;
+use daachorse_expected::rows::{Read, Search, Way};
 use daachorse_model::slow::Width;
 use std::alloc::{Allocator, Global};
 use std::hash::Hash;

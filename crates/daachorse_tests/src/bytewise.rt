@@ -4,14 +4,15 @@ use crate::automata::{
     Automaton, Bytewise, Listed, PATVALS, Plainly, Searched, SearchedInBytes, finds, given_back,
     refused,
 };
-use crate::finding::{
-    Found, are, are_found, are_found_overlapping, are_values, gives, gives_leftmost,
-};
-use crate::leftmost_streams::are_streamed_bytes;
-use crate::replaced::{bracket, instead, write_bracketed};
-use crate::rows::{BY_CORPUS, Search, Way};
+use crate::replaced::{bracket, instead};
 use daachorse::bytewise::Accelerated;
 use daachorse::{DoubleArrayAhoCorasick, DoubleArrayAhoCorasickBuilder, Match, MatchKind, Result};
+use daachorse_expected::finding::{
+    Found, are, are_found, are_found_overlapping, are_values, gives, gives_leftmost,
+};
+use daachorse_expected::rows::{BY_CORPUS, Search, Way};
+use daachorse_expected::streamed::are_streamed;
+use daachorse_expected::writers::write_bracketed;
 use daachorse_model::slow::Width;
 use std::alloc::{AllocError, Allocator};
 use std::io::{self, Write};
@@ -355,7 +356,12 @@ impl<A: Allocator + Copy> Automaton for Bytewise<A> {
     }
 
     fn streams(&self, alloc: A, text: &str, expected: &[Found]) -> Result<bool> {
-        are_streamed_bytes(alloc, self, text, expected, &[])
+        if self.match_kind().is_standard() {
+            return Ok(true);
+        }
+        let marks = self.stream_marks(alloc)?;
+        let mut stream = self.leftmost_stream(alloc, &marks)?;
+        Ok(are_streamed(&mut stream, text.as_bytes(), expected, &[]))
     }
 
     fn replaced(&self, alloc: A, text: &str) -> Result<Vec<u8, A>> {

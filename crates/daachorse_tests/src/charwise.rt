@@ -3,16 +3,17 @@
 use crate::automata::{
     Automaton, Charwise, Listed, PATTERNS, PATVALS, Plainly, Searched, finds, given_back, refused,
 };
-use crate::finding::{
-    Found, are, are_found, are_found_overlapping, are_values, gives, gives_leftmost,
-};
-use crate::leftmost_streams::are_streamed_characters;
-use crate::replaced::{bracket_text, instead_of_text, write_bracketed};
-use crate::rows::{BY_CORPUS, Search, Way};
+use crate::replaced::{bracket_text, instead_of_text};
 use daachorse::charwise::Accelerated;
 use daachorse::{
     CharwiseDoubleArrayAhoCorasick, CharwiseDoubleArrayAhoCorasickBuilder, Match, MatchKind, Result,
 };
+use daachorse_expected::finding::{
+    Found, are, are_found, are_found_overlapping, are_values, gives, gives_leftmost,
+};
+use daachorse_expected::rows::{BY_CORPUS, Search, Way};
+use daachorse_expected::streamed::are_streamed;
+use daachorse_expected::writers::write_bracketed;
 use daachorse_model::slow::Width;
 use std::alloc::Allocator;
 use std::io::{self, Write};
@@ -299,7 +300,16 @@ impl<A: Allocator + Copy> Automaton for Charwise<A> {
     }
 
     fn streams(&self, alloc: A, text: &str, expected: &[Found]) -> Result<bool> {
-        are_streamed_characters(alloc, self, text, expected, &[])
+        if self.match_kind().is_standard() {
+            return Ok(true);
+        }
+        let marks = self.stream_marks(alloc)?;
+        let mut stream = self.leftmost_stream(alloc, &marks)?;
+        let mut characters = Vec::new(alloc);
+        for character in text.chars() {
+            characters.push(character)?;
+        }
+        Ok(are_streamed(&mut stream, &characters, expected, &[]))
     }
 
     fn replaced(&self, alloc: A, text: &str) -> Result<Vec<u8, A>> {

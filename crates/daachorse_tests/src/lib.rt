@@ -15,10 +15,6 @@ mod changed;
 #[cfg(test)]
 mod charwise;
 #[cfg(test)]
-mod finding;
-#[cfg(test)]
-mod leftmost_streams;
-#[cfg(test)]
 mod listing;
 #[cfg(test)]
 mod lookups;
@@ -27,21 +23,13 @@ mod plain;
 #[cfg(test)]
 mod raw_bytes;
 #[cfg(test)]
-mod readers;
-#[cfg(test)]
 mod replaced;
 #[cfg(test)]
 mod requests;
 #[cfg(test)]
 mod room;
 #[cfg(test)]
-mod rows;
-#[cfg(test)]
 mod searches;
-#[cfg(test)]
-mod steppers;
-#[cfg(test)]
-mod streams;
 #[cfg(test)]
 mod written;
 

@@ -1,9 +1,9 @@
 //! The listing of patterns, the number of states, equality, hashes, and the ways to build.
 
 use crate::automata::{Automaton, Bytewise, Charwise, PATVALS, Plainly};
-use crate::rows::{BUILT, FOLDING, Patvals, UNFILTERED, Way};
 use crate::{expect, expect_over, hash_of};
 use daachorse::{MatchKind, Result};
+use daachorse_expected::rows::{BUILT, FOLDING, Patvals, UNFILTERED, Way};
 use std::alloc::Global;
 use std::fmt::Debug;
 use std::process::Abort;

@@ -2,10 +2,10 @@
 
 use crate::automata::{Automaton, Bytewise, Charwise, made};
 use crate::expect;
-use crate::finding::Found;
-use crate::rows::{BUILT, FOLDING, Patvals, READ_BACK, Way};
 use daachorse::MatchKind::{self, LeftmostFirst, LeftmostLongest, Standard};
 use daachorse::Result;
+use daachorse_expected::finding::Found;
+use daachorse_expected::rows::{BUILT, FOLDING, Patvals, READ_BACK, Way};
 use std::alloc::Global;
 use std::test::Fail;
 

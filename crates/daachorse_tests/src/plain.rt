@@ -2,9 +2,9 @@
 
 use crate::automata::{Automaton, Bytewise, Charwise, KINDS, finds};
 use crate::expect;
-use crate::finding::Found;
-use crate::rows::{BUILT, ROWS, ROWS_OF_CHARACTERS, Row, Search, UNFILTERED};
 use daachorse::{MatchKind, Result};
+use daachorse_expected::finding::Found;
+use daachorse_expected::rows::{BUILT, ROWS, ROWS_OF_CHARACTERS, Row, Search, UNFILTERED};
 use daachorse_model::slow::{
     Width, leftmost_slowly, no_suffix_slowly, overlapping_slowly, standard_slowly,
 };

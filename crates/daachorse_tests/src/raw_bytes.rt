@@ -4,10 +4,10 @@
 use crate::automata::{Bytewise, finds_of_bytes};
 use crate::bytewise::{built_of_bytes, numbers};
 use crate::expect;
-use crate::finding::Found;
 use crate::plain::slowly;
-use crate::rows::{BUILT, Search, WAYS, Way};
 use daachorse::{MatchKind, Result};
+use daachorse_expected::finding::Found;
+use daachorse_expected::rows::{BUILT, Search, WAYS, Way};
 use daachorse_model::slow::Width;
 use std::alloc::Global;
 use std::test::Fail;

@@ -2,9 +2,9 @@
 
 use crate::automata::{Automaton, Bytewise, Charwise, PATVALS, Plainly, made};
 use crate::expect_over;
-use crate::rows::{BUILT, BY_CORPUS, Patvals, READ_BACK, READ_UNCHECKED, Search, Way};
 use daachorse::errors::DaachorseError;
 use daachorse::{MatchKind, Result};
+use daachorse_expected::rows::{BUILT, BY_CORPUS, Patvals, READ_BACK, READ_UNCHECKED, Search, Way};
 use refusing::{Answer, Call, Refusing, each_request};
 use std::alloc::Global;
 

@@ -2,12 +2,12 @@
 
 use crate::automata::{Automaton, Bytewise, Charwise, finds, made};
 use crate::expect;
-use crate::finding::Found;
-use crate::rows::{
+use daachorse::{Match, MatchKind, Result};
+use daachorse_expected::finding::Found;
+use daachorse_expected::rows::{
     BUILT, FOLDED_ROWS, FOLDING, FOLDING_READ_BACK, FOLDING_WAYS, Patvals, READ_BACK, ROWS,
     ROWS_OF_CHARACTERS, Row, Search, WAYS, Way,
 };
-use daachorse::{Match, MatchKind, Result};
 use std::alloc::Global;
 use std::test::Fail;
 

@@ -3,13 +3,12 @@
 ghost use Rattle.std.specs.Prelude.{◌≡◌};
 ghost use Rattle.daachorse_model.specs.declared.MatchKind.TheVariants.{Standard};
 
-use crate::automata::{Bytewise, Charwise};
-use crate::finding::{Found, are_read};
-use crate::rows::Search;
-use crate::{expect, expect_over};
+use crate::{Bytewise, Charwise, expect, expect_over};
 use daachorse::bytewise::Accelerated as BytewiseRows;
 use daachorse::charwise::Accelerated as CharwiseRows;
 use daachorse::{CharwiseDoubleArrayAhoCorasick, DoubleArrayAhoCorasick};
+use daachorse_expected::finding::{Found, are_read};
+use daachorse_expected::rows::Search;
 use std::alloc::Global;
 use std::io::{self, ErrorKind, Read};
 use std::test::Fail;

@@ -3,7 +3,7 @@
 ghost use Rattle.std.specs.Iterator.{IsFinite};
 ghost use Rattle.std.specs.Prelude.{◌≡◌, []};
 
-use daachorse::Match;
+use daachorse_core::Match;
 use daachorse_core::edge_label::EdgeLabel;
 use daachorse_haystack::filter::Filter;
 use daachorse_haystack::haystack::Haystack;

@@ -1,6 +1,6 @@
 -- Each unit takes at most four bytes.
-use Rattle.daachorse_tests.proofs.Steps.{four_more}
-use Rattle.daachorse_tests.proofs.finding.are_found_overlapping.Goals as goal
+use Rattle.daachorse_expected.proofs.Steps.{four_more}
+use Rattle.daachorse_expected.proofs.finding.are_found.Goals as goal
 
 pub loop-place-preserved : goal.loop-place-preserved
 loop-place-preserved g c =

@@ -3,11 +3,10 @@
 ghost use Rattle.std.specs.Prelude.{◌≡◌, IfOk};
 ghost use Rattle.daachorse_model.specs.declared.MatchKind.TheVariants.{Standard};
 
-use crate::automata::Bytewise;
-use crate::expect;
-use crate::finding::are;
+use crate::{Bytewise, expect};
 use daachorse::bytewise::Accelerated;
 use daachorse::{DoubleArrayAhoCorasick, Match, Result};
+use daachorse_expected::finding::are;
 use std::alloc::{AllocError, Global};
 use std::test::Fail;
 

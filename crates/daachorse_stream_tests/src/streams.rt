@@ -1,8 +1,6 @@
 //! What is written of a stream whose matches are replaced, over bytes and over characters.
 
-use crate::automata::{Bytewise, Charwise};
-use crate::expect;
-use crate::replaced::{Narrow, is_beginning, write_bracketed};
+use crate::{Bytewise, Charwise, expect};
 use daachorse::MatchKind::{self, LeftmostFirst, LeftmostLongest, Standard};
 use daachorse::bytewise::Accelerated as BytewiseRows;
 use daachorse::charwise::Accelerated as CharwiseRows;
@@ -10,6 +8,7 @@ use daachorse::{
     CharwiseDoubleArrayAhoCorasick, CharwiseDoubleArrayAhoCorasickBuilder,
     DoubleArrayAhoCorasickBuilder, Result,
 };
+use daachorse_expected::writers::{Narrow, is_beginning, write_bracketed};
 use std::alloc::Global;
 use std::io::{self, ErrorKind, Read, Write};
 use std::test::Fail;

@@ -15,7 +15,7 @@ use daachorse_core::errors::Result;
 use daachorse_core::{Match, MatchKind};
 use daachorse_replacing::streaming::replace_from;
 use daachorse_search::reader::{ReadBytes, in_blocks};
-use daachorse_streams::replacing::replace_leftmost_from;
+use daachorse_streams::replacing::replace_leftmost_skipping;
 use std::alloc::Allocator;
 use std::io::{self, Read, Write};
 
@@ -90,7 +90,16 @@ impl<V: Copy, A: Allocator + Copy> DoubleArrayAhoCorasick<V, A> {
         let marks = self.stream_marks(*self.depths.allocator())?;
         let source = ReadBytes::new(in_blocks(alloc, reader)?);
         let states = self.states.leftmost();
-        replace_leftmost_from(states, &marks, self.folds, source, alloc, out, write)
+        replace_leftmost_skipping(
+            states,
+            &marks,
+            self.folds,
+            source,
+            self.skipping(),
+            alloc,
+            out,
+            write,
+        )
     }
 
     /// The length of the longest pattern.

@@ -6,8 +6,9 @@
 #
 # The output goes to FOLDER, else to bindings/out: libdaachorse.so.1 with the link libdaachorse.so,
 # the example in C, and tests in C: over the table bindings/rows, which rows.py makes, of the other
-# calls, of each allocation refused in turn, of the memory that a hostile form takes, of the steps of
-# a stream over many equal patterns, and of threads that search an automaton at once.
+# calls, of automata over characters, of each allocation refused in turn, of the memory that a
+# hostile form takes, of the steps of a stream over many equal patterns, and of threads that search
+# an automaton at once.
 #
 # It needs the Rattle kit (its command rt), which first proves what is not proved yet, and a C
 # compiler, CC or cc, with a linker that has --wrap. Without valgrind, python3, Dask, objcopy or a
@@ -65,6 +66,7 @@ compile() {
 compile example
 compile rows
 compile calls
+compile characters
 compile refusals -Wl,--wrap=malloc,--wrap=realloc
 compile memory -Wl,--wrap=malloc,--wrap=realloc,--wrap=free
 compile threads -pthread
@@ -77,6 +79,8 @@ echo "build.sh: the example in C wrote what it should"
 echo "build.sh: in C each search and each listing wrote what its row says"
 "$out/calls"
 echo "build.sh: in C the other calls did what their rows say"
+"$out/characters"
+echo "build.sh: in C automata over characters did what their rows say"
 "$out/refusals"
 echo "build.sh: each request for memory may be refused"
 "$out/memory"
@@ -89,7 +93,7 @@ steps() {
 }
 
 if valgrind -q "$out/trial" >/dev/null 2>&1; then
-    for program in example rows calls refusals memory; do
+    for program in example rows calls characters refusals memory; do
         valgrind -q --leak-check=full --show-leak-kinds=all --errors-for-leak-kinds=all --error-exitcode=1 "$out/$program" < "$here/rows" >/dev/null
     done
     valgrind -q --tool=helgrind --error-exitcode=1 "$out/threads" 2 >/dev/null

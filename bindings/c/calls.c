@@ -38,13 +38,14 @@ static void see_options(void) {
         daachorse_options options;
         uint32_t answer;
     } rows[] = {
-        {{0, 0, 0, {0}}, DAACHORSE_DONE},
-        {{2, 1, 1, {0}}, DAACHORSE_DONE},
-        {{3, 0, 0, {0}}, DAACHORSE_UNKNOWN_KIND},
-        {{0, 2, 0, {0}}, DAACHORSE_UNKNOWN_OPTION},
-        {{0, 0, 2, {0}}, DAACHORSE_UNKNOWN_OPTION},
-        {{0, 0, 0, {1}}, DAACHORSE_UNKNOWN_OPTION},
-        {{0, 0, 0, {0, 0, 0, 0, 1}}, DAACHORSE_UNKNOWN_OPTION},
+        {{0, 0, 0, 0, {0}}, DAACHORSE_DONE},
+        {{2, 1, 1, 1, {0}}, DAACHORSE_DONE},
+        {{3, 0, 0, 0, {0}}, DAACHORSE_UNKNOWN_KIND},
+        {{0, 2, 0, 0, {0}}, DAACHORSE_UNKNOWN_OPTION},
+        {{0, 0, 2, 0, {0}}, DAACHORSE_UNKNOWN_OPTION},
+        {{0, 0, 0, 2, {0}}, DAACHORSE_UNKNOWN_OPTION},
+        {{0, 0, 0, 0, {1}}, DAACHORSE_UNKNOWN_OPTION},
+        {{0, 0, 0, 0, {0, 0, 0, 1}}, DAACHORSE_UNKNOWN_OPTION},
     };
     for (size_t i = 0; i < sizeof rows / sizeof *rows; i++) {
         const size_t ends[] = {1};

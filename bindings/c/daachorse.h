@@ -1,4 +1,4 @@
-/* Automata over bytes: many patterns searched at once.
+/* Many patterns searched at once, in bytes or in the characters of UTF-8.
  *
  * A handle begins as DAACHORSE_EMPTY. daachorse_build or daachorse_read fills it, the searches use
  * it, and daachorse_free empties it. Each call but daachorse_free and daachorse_version returns an
@@ -59,6 +59,13 @@ enum daachorse_kind {
     DAACHORSE_LEFTMOST_FIRST = 2    /* daachorse_leftmost_find: the earliest pattern at a start */
 };
 
+/* What the patterns and haystacks of an automaton are made of. Over characters they are UTF-8, and
+ * no match begins or ends inside a character: the empty pattern matches between characters alone. */
+enum daachorse_unit {
+    DAACHORSE_BYTES = 0,
+    DAACHORSE_CHARACTERS = 1
+};
+
 /* The searches of streams. */
 enum daachorse_search {
     DAACHORSE_FIND = 0,        /* the matches of daachorse_find */
@@ -84,18 +91,20 @@ enum daachorse_answer {
     DAACHORSE_NO_STREAM = 12,        /* no stream was begun */
     DAACHORSE_STREAM_TOO_LONG = 13,  /* an offset or the number of matches would pass size_t */
     DAACHORSE_UNKNOWN_OPTION = 14,   /* an option is neither 0 nor 1, or a spare one is not 0 */
-    DAACHORSE_WRONG_PLACE = 15,      /* a search would go on behind the haystack */
+    DAACHORSE_WRONG_PLACE = 15,      /* a search would go on behind the haystack, or in a character */
     DAACHORSE_UNKNOWN_SEARCH = 16,   /* no search of a stream has this number */
-    DAACHORSE_STREAM_ENDED = 17      /* bytes come after the end of the stream */
+    DAACHORSE_STREAM_ENDED = 17,     /* bytes come after the end of the stream */
+    DAACHORSE_INVALID_UTF8 = 18      /* the automaton is over characters, and bytes are no UTF-8 */
 };
 
-/* The options of a build. One that is all 0 asks for the standard kind, with a prefilter, and
- * regards case. */
+/* The options of a build. One that is all 0 asks for the standard kind, over bytes, with a
+ * prefilter, and regards case. */
 typedef struct daachorse_options {
     uint32_t kind;                   /* an enum daachorse_kind */
     uint32_t no_prefilter;           /* 1: searches do not skip places where no pattern begins */
     uint32_t ascii_case_insensitive; /* 1: A to Z are read as a to z */
-    uint32_t spare[5];               /* 0 */
+    uint32_t unit;                   /* an enum daachorse_unit */
+    uint32_t spare[4];               /* 0 */
 } daachorse_options;
 
 /* How much an automaton holds. */
@@ -131,19 +140,21 @@ static inline const char *daachorse_answer_text(uint32_t answer) {
     case DAACHORSE_NO_STREAM: return "no stream was begun";
     case DAACHORSE_STREAM_TOO_LONG: return "an offset or the number of matches would pass 64 bits";
     case DAACHORSE_UNKNOWN_OPTION: return "an option is neither 0 nor 1, or a spare one is not 0";
-    case DAACHORSE_WRONG_PLACE: return "a search would go on behind the haystack";
+    case DAACHORSE_WRONG_PLACE: return "a search would go on behind the haystack, or in a character";
     case DAACHORSE_UNKNOWN_SEARCH: return "no search of a stream has this number";
     case DAACHORSE_STREAM_ENDED: return "bytes come after the end of the stream";
+    case DAACHORSE_INVALID_UTF8: return "the automaton is over characters, and bytes are no UTF-8";
     default: return "no answer of this library";
     }
 }
 
-/* Fills the handle with an automaton of this kind, and frees what it held. Pattern i, counted from
- * 0, stands in bytes from ends[i - 1], or 0 for the first, up to ends[i], exclusive, and has the
- * value values[i]. Patterns may be empty, and equal ones are all kept. use_prefilter lets searches
- * skip places where no pattern begins, and changes no result. With ascii_case_insensitive, A to Z,
- * and no other bytes, are read as a to z in the patterns, in all haystacks and in streams, so that
- * "Ab" matches ab, aB, Ab and AB. Patterns that differ only in case are then equal.
+/* Fills the handle with an automaton over bytes, of this kind, and frees what it held. Pattern i,
+ * counted from 0, stands in bytes from ends[i - 1], or 0 for the first, up to ends[i], exclusive,
+ * and has the value values[i]. Patterns may be empty, and equal ones are all kept. use_prefilter
+ * lets searches skip places where no pattern begins, and changes no result. With
+ * ascii_case_insensitive, A to Z, and no other bytes, are read as a to z in the patterns, in all
+ * haystacks and in streams, so that "Ab" matches ab, aB, Ab and AB. Patterns that differ only in
+ * case are then equal.
  *
  * Returns DAACHORSE_DONE or, with the handle unchanged, DAACHORSE_OUT_OF_MEMORY, _UNKNOWN_KIND,
  * _WRONG_PATTERNS, _PATTERN_TOO_LONG, _TOO_MANY_STATES, _TOO_MANY_PATTERNS or
@@ -153,7 +164,11 @@ uint32_t daachorse_build(daachorse *handle, uint32_t kind, bool use_prefilter, b
         size_t values_len);
 
 /* Does what daachorse_build does, with the options in a struct. It may return
- * DAACHORSE_UNKNOWN_OPTION besides, with the handle unchanged. */
+ * DAACHORSE_UNKNOWN_OPTION besides, or DAACHORSE_INVALID_UTF8 if the automaton is to be over
+ * characters and a pattern is no UTF-8, with the handle unchanged.
+ *
+ * Each call below that searches bytes with an automaton over characters returns
+ * DAACHORSE_INVALID_UTF8 if they are no UTF-8, and then does what it does for an empty handle. */
 uint32_t daachorse_build_with(daachorse *handle, const daachorse_options *options, const uint8_t *bytes,
         size_t bytes_len, const size_t *ends, size_t ends_len, const uint32_t *values, size_t values_len);
 
@@ -187,7 +202,8 @@ uint32_t daachorse_share(daachorse *handle, daachorse *other);
 /* Fills other with a copy of the automaton that has rows of the states near its root, and frees
  * what it held. Searches of a whole haystack find the same, faster if patterns are few and short.
  * The rows take at most 319,484 bytes, and 2 for each element of the automaton. If more than 485
- * texts of at most two bytes begin patterns, the copy has none. Returns DAACHORSE_DONE or, with
+ * texts of at most two bytes begin patterns, or over characters more than 196 of at most two
+ * characters, the copy may have none. Returns DAACHORSE_DONE or, with
  * other unchanged, DAACHORSE_EMPTY_HANDLE or DAACHORSE_OUT_OF_MEMORY. */
 uint32_t daachorse_accelerate(daachorse *handle, daachorse *other);
 
@@ -220,10 +236,11 @@ uint32_t daachorse_leftmost_find(daachorse *handle, const uint8_t *haystack, siz
  * automaton of a leftmost kind with that of daachorse_leftmost_find, and moves the place behind the
  * last match written. The haystack is the same in all calls. If written is less than out_len, every
  * match was reported; else call again. The calls together read what one search of the whole reads,
- * and take a few steps more for each match, whatever out_len is. They allocate nothing. Returns
- * DAACHORSE_DONE or, with place and out unchanged and 0 in written, DAACHORSE_EMPTY_HANDLE, or
- * DAACHORSE_WRONG_PLACE if the place is behind the haystack. The other searches go on by a stream
- * (daachorse_begin). */
+ * and take a few steps more for each match, whatever out_len is; over characters each call also
+ * reads the whole haystack, to see that it is UTF-8. They allocate nothing. Returns DAACHORSE_DONE
+ * or, with place and out unchanged and 0 in written, DAACHORSE_EMPTY_HANDLE, or
+ * DAACHORSE_WRONG_PLACE if the place is behind the haystack or inside a character. The other
+ * searches go on by a stream (daachorse_begin). */
 uint32_t daachorse_find_on(daachorse *handle, const uint8_t *haystack, size_t haystack_len, daachorse_place *place,
         daachorse_match *out, size_t out_len, size_t *written);
 
@@ -279,26 +296,32 @@ static inline uint32_t daachorse_stream(daachorse *handle, uint32_t search, daac
  * were consumed and every match so far was reported. If it is out_len, call again with the bytes
  * after the first taken, even if there are none: no match is lost.
  *
+ * Over characters a piece may end inside a character: a match is reported when its last byte came.
+ * Bytes with which no character begins are not consumed, nor those after them, even if written is
+ * less than out_len. A call with them is then refused.
+ *
  * A match of DAACHORSE_LEFTMOST is reported as soon as it is certain: as soon as no byte that
  * follows can change it. So some are reported only after the end (daachorse_end).
  *
  * The call allocates nothing. The calls take time linear in the bytes and the matches, whatever
  * out_len is, but for DAACHORSE_LEFTMOST at most the length of the longest pattern more for each
  * match and each call. Returns DAACHORSE_DONE or, with the stream and out unchanged and 0 in taken
- * and written, DAACHORSE_EMPTY_HANDLE, DAACHORSE_NO_STREAM, DAACHORSE_STREAM_TOO_LONG, or
- * DAACHORSE_STREAM_ENDED if bytes come after the end. */
+ * and written, DAACHORSE_EMPTY_HANDLE, DAACHORSE_NO_STREAM, DAACHORSE_STREAM_TOO_LONG,
+ * DAACHORSE_STREAM_ENDED if bytes come after the end, or DAACHORSE_INVALID_UTF8 if no character
+ * begins with the first byte, behind the bytes of one that has begun. */
 uint32_t daachorse_consume(daachorse *handle, const uint8_t *bytes, size_t bytes_len, daachorse_match *out,
         size_t out_len, size_t *taken, size_t *written);
 
 /* Ends the stream: no more bytes come. daachorse_consume with no bytes then reports the matches that
  * were left, all of them if it writes less than out_len. Returns DAACHORSE_DONE or, with the handle
- * unchanged, DAACHORSE_EMPTY_HANDLE or DAACHORSE_NO_STREAM. */
+ * unchanged, DAACHORSE_EMPTY_HANDLE, DAACHORSE_NO_STREAM, or DAACHORSE_INVALID_UTF8 inside a
+ * character. */
 uint32_t daachorse_end(daachorse *handle);
 
-/* Writes the automaton to the front of out, and its length to size. daachorse_read reads it back,
- * with its kind and whether it ignores ASCII case. Returns DAACHORSE_DONE or, with out unchanged,
- * DAACHORSE_EMPTY_HANDLE or DAACHORSE_OUT_OF_MEMORY, with 0 in size, or DAACHORSE_NO_ROOM, with the
- * length needed in size. */
+/* Writes the automaton to the front of out, and its length to size. daachorse_read_with reads it
+ * back, with its kind and whether it ignores ASCII case, if it is told the unit. Returns
+ * DAACHORSE_DONE or, with out unchanged, DAACHORSE_EMPTY_HANDLE or DAACHORSE_OUT_OF_MEMORY, with 0
+ * in size, or DAACHORSE_NO_ROOM, with the length needed in size. */
 uint32_t daachorse_write(daachorse *handle, uint8_t *out, size_t out_len, size_t *size);
 
 /* Writes the automaton's patterns to the fronts of bytes, ends and values, in the form that
@@ -316,10 +339,16 @@ uint32_t daachorse_write(daachorse *handle, uint8_t *out, size_t out_len, size_t
 uint32_t daachorse_list(daachorse *handle, uint8_t *bytes, size_t bytes_len, size_t *ends, size_t ends_len,
         uint32_t *values, size_t values_len, size_t *size, size_t *count);
 
-/* Fills the handle with the automaton that the bytes begin with, frees what it held, and writes the
- * automaton's length to taken. The bytes may be untrusted. Returns DAACHORSE_DONE or, with the
- * handle unchanged and 0 in taken, DAACHORSE_OUT_OF_MEMORY or DAACHORSE_INVALID_AUTOMATON. */
+/* Fills the handle with the automaton over bytes that the bytes begin with, frees what it held,
+ * and writes the automaton's length to taken. The bytes may be untrusted. Returns DAACHORSE_DONE
+ * or, with the handle unchanged and 0 in taken, DAACHORSE_OUT_OF_MEMORY or
+ * DAACHORSE_INVALID_AUTOMATON. */
 uint32_t daachorse_read(daachorse *handle, const uint8_t *bytes, size_t bytes_len, size_t *taken);
+
+/* Does what daachorse_read does for an automaton over this unit, an enum daachorse_unit. What was
+ * written does not tell its unit: read over another it is refused, or is another automaton. It may
+ * return DAACHORSE_UNKNOWN_OPTION besides, with the handle unchanged and 0 in taken. */
+uint32_t daachorse_read_with(daachorse *handle, uint32_t unit, const uint8_t *bytes, size_t bytes_len, size_t *taken);
 
 /* The calls above as C uses them: a null pointer with a length of 0 becomes one that is not null,
  * and a number that the library writes has a value before. */
@@ -450,6 +479,13 @@ static inline uint32_t daachorse_read_in_c(daachorse *handle, const uint8_t *byt
 }
 #define daachorse_read daachorse_read_in_c
 
+static inline uint32_t daachorse_read_with_in_c(daachorse *handle, uint32_t unit, const uint8_t *bytes, size_t bytes_len,
+        size_t *taken) {
+    *taken = 0;
+    return daachorse_read_with(handle, unit, (const uint8_t *)daachorse_some(bytes), bytes_len, taken);
+}
+#define daachorse_read_with daachorse_read_with_in_c
+
 /* Calls that pass each match to a function of the caller's, in order, until it returns other than 0.
  * They need no room, and find what the search of that name finds in a haystack of any length. */
 
@@ -490,7 +526,7 @@ static inline uint32_t daachorse_stream_each(daachorse *handle, uint32_t search,
     daachorse_match found[DAACHORSE_EACH_ROOM];
     size_t at = 0, taken, written = DAACHORSE_EACH_ROOM;
     uint32_t answer = daachorse_stream(handle, search, &stream);
-    while (answer == DAACHORSE_DONE && written == DAACHORSE_EACH_ROOM) {
+    while (answer == DAACHORSE_DONE && (written == DAACHORSE_EACH_ROOM || at < haystack_len)) {
         const uint8_t *rest = haystack != NULL ? haystack + at : NULL;
         answer = daachorse_consume(&stream, rest, haystack_len - at, found, DAACHORSE_EACH_ROOM, &taken, &written);
         at += taken;

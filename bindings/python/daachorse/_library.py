@@ -45,6 +45,7 @@ class Refusal(enum.IntEnum):
     WRONG_PLACE = 15
     UNKNOWN_SEARCH = 16
     STREAM_ENDED = 17
+    INVALID_UTF8 = 18
 
 
 _SENTENCES = {
@@ -56,6 +57,7 @@ _SENTENCES = {
     Refusal.INVALID_AUTOMATON: "the bytes do not begin with an automaton",
     Refusal.STREAM_TOO_LONG: "a place in the stream or the number of its matches would pass 64 bits",
     Refusal.STREAM_ENDED: "the stream was finished",
+    Refusal.INVALID_UTF8: "the bytes are no UTF-8",
 }
 
 

@@ -40,10 +40,12 @@ pub enum Refusal {
     UnknownSearch = 16,
     /// A stream takes no bytes after its end. This crate passes none.
     StreamEnded = 17,
+    /// The automaton is over characters, and bytes are no UTF-8. This crate builds none such.
+    InvalidUtf8 = 18,
 }
 
 impl Refusal {
-    const ALL: [Refusal; 17] = [
+    const ALL: [Refusal; 18] = [
         Refusal::OutOfMemory,
         Refusal::EmptyHandle,
         Refusal::UnknownKind,
@@ -61,6 +63,7 @@ impl Refusal {
         Refusal::WrongPlace,
         Refusal::UnknownSearch,
         Refusal::StreamEnded,
+        Refusal::InvalidUtf8,
     ];
 }
 
@@ -84,6 +87,7 @@ impl fmt::Display for Refusal {
             Refusal::WrongPlace => "a search would go on behind the haystack",
             Refusal::UnknownSearch => "no search of a stream has this number",
             Refusal::StreamEnded => "the stream has ended",
+            Refusal::InvalidUtf8 => "the automaton is over characters, and bytes are no UTF-8",
         })
     }
 }

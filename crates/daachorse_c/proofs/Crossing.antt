@@ -1,6 +1,8 @@
 -- What a handle keeps says the same to every thread: an automaton, and where its stream stands, whose counts take no bytes, with what it has to know of the automaton.
-use denote.Param.Send.{IsSend, IsSync, enum_send, recorded_send, sendable, struct_send, view_send}
+use denote.Param.Send.{IsSend, IsSync, enum_send, enum_sync, recorded_send, recorded_sync, sendable, struct_send, view_send}
 use denote.Builtin.{u8}
+use denote.Text.{Char}
+use denote.RattleType.{RattleType}
 use denote.Struct.Declared.{shape}
 use denote.Enum.Declared.{shape as enum_shape}
 use Rattle.core.proofs.snapshot.Sent.{snapshot_send}
@@ -21,13 +23,20 @@ use Rattle.daachorse_streams.specs.contracts.scan.Pending as pending
 use Rattle.daachorse_streams.specs.contracts.scan.Scan as scan
 use Rattle.daachorse_streams.specs.contracts.search.Search as searching
 use Rattle.daachorse_streams.specs.contracts.stream_marks.StreamMarks as marks
-use Rattle.daachorse_bytewise.proofs.bytewise.DoubleArrayAhoCorasick.TheSendSync as bytewise
-use Rattle.daachorse_bytewise.proofs.bytewise.accelerated.Accelerated.TheSendSync as rowed
+use Rattle.daachorse_bytewise.proofs.bytewise.DoubleArrayAhoCorasick.TheSendSync as over_bytes
+use Rattle.daachorse_bytewise.proofs.bytewise.accelerated.Accelerated.TheSendSync as rowed_bytes
+use Rattle.daachorse_charwise.proofs.charwise.CharwiseDoubleArrayAhoCorasick.TheSendSync as over_characters
+use Rattle.daachorse_charwise.proofs.charwise.accelerated.Accelerated.TheSendSync as rowed_characters
 use Rattle.daachorse_c.specs.contracts.automaton.Searcher as automaton
 use Rattle.daachorse_c.specs.contracts.automaton.Searcher.TheInside as inside
+use Rattle.daachorse_c.specs.contracts.begun.Begun as begun
+use Rattle.daachorse_c.specs.contracts.begun.Begun.TheInside as begun_inside
+use Rattle.daachorse_c.specs.contracts.bytewise.Bytewise as bytewise
+use Rattle.daachorse_c.specs.contracts.charwise.Charwise as charwise
 use Rattle.daachorse_c.specs.contracts.searches.Searches as searches
 use Rattle.daachorse_c.specs.contracts.stepper.Standing as standing
 use Rattle.daachorse_c.specs.contracts.stream.Stream as stream
+use Rattle.daachorse_c.specs.contracts.streams.Streams as streams
 use Rattle.daachorse_c.specs.contracts.teller.TellerStanding as teller
 
 counter_send : IsSend counter.the_row
@@ -58,30 +67,48 @@ pending_send = recorded_send pending.the_field.row _ _ pending.the_type.to_one (
 scan_send : IsSend scan.the_field.row
 scan_send = struct_send (shape scan.the_type) (search sendable, (search sendable, (option.the_field_send _ pending_send, (search sendable, tt))))
 
-searching_send : IsSend (searching.the_field u8 Heap.the_row ghosts).row
-searching_send =
-    struct_send (shape (searching.the_type u8 Heap.the_row ghosts))
-    (Deque-send u8 (search sendable), (search sendable, (scan_send, (search sendable, (search sendable, (search sendable, (turns_send, (seen_send, tt))))))))
+searching_send : (unit : RattleType) → IsSend unit → IsSend (searching.the_field unit Heap.the_row ghosts).row
+searching_send unit sent =
+    struct_send (shape (searching.the_type unit Heap.the_row ghosts))
+    (Deque-send unit sent, (search sendable, (scan_send, (search sendable, (search sendable, (search sendable, (turns_send, (seen_send, tt))))))))
 
-leftmost_send : IsSend (leftmost.the_field u8 Heap.the_row ghosts).row
-leftmost_send = struct_send (shape (leftmost.the_type u8 Heap.the_row ghosts)) (searching_send, (search sendable, tt))
+leftmost_send : (unit : RattleType) → IsSend unit → IsSend (leftmost.the_field unit Heap.the_row ghosts).row
+leftmost_send unit sent = struct_send (shape (leftmost.the_type unit Heap.the_row ghosts)) (searching_send unit sent, (search sendable, tt))
 
 marks_send : IsSend (marks.the_field Heap.the_row ghosts).row
 marks_send = struct_send (shape (marks.the_type Heap.the_row ghosts)) (Vec-send _ (search sendable), (search sendable, tt))
 
-standing_send : IsSend standing.the_field.row
-standing_send = enum_send (enum_shape standing.the_type) ((find_send, (search sendable, tt)), ((teller_send, tt), ((leftmost_send, tt), tt)))
+standing_send : (unit : RattleType) → IsSend unit → IsSend (standing.the_field unit).row
+standing_send unit sent = enum_send (enum_shape (standing.the_type unit)) ((find_send, (search sendable, tt)), ((teller_send, tt), ((leftmost_send unit sent, tt), tt)))
 
-stream_send : IsSend stream.the_row
-stream_send = recorded_send stream.the_field.row _ _ stream.the_type.to_one (struct_send (shape stream.the_type) (standing_send, (marks_send, (search sendable, (search sendable, tt)))))
+begun_send : IsSend begun.the_row
+begun_send = view_send _ _ _ _ _ (recorded_send begun_inside.the_field.row _ _ begun_inside.the_type.to_one (struct_send (shape begun_inside.the_type) (search sendable, (search sendable, tt))))
+
+stream_send : (unit : RattleType) → IsSend unit → IsSend (stream.the_field unit).row
+stream_send unit sent = struct_send (shape (stream.the_type unit)) (standing_send unit sent, (begun_send, (marks_send, (search sendable, (search sendable, tt)))))
+
+streams_send : IsSend streams.the_row
+streams_send = recorded_send streams.the_field.row _ _ streams.the_type.to_one (enum_send (enum_shape streams.the_type) ((stream_send u8 (search sendable), tt), ((stream_send Char (search sendable), tt), tt)))
+
+bytewise_send : IsSend bytewise.the_field.row
+bytewise_send = let a = heap.the_send in let f = frees in search (sendable, over_bytes.the_send, rowed_bytes.the_send) depth 20
+
+charwise_send : IsSend charwise.the_field.row
+charwise_send = let a = heap.the_send in let f = frees in search (sendable, over_characters.the_send, rowed_characters.the_send) depth 20
 
 searches_send : IsSend searches.the_row
-searches_send = let a = heap.the_send in let f = frees in search (sendable, bytewise.the_send, rowed.the_send) depth 20
+searches_send = recorded_send searches.the_field.row _ _ searches.the_type.to_one (enum_send (enum_shape searches.the_type) ((bytewise_send, tt), ((charwise_send, tt), tt)))
+
+bytewise_sync : IsSync bytewise.the_field.row
+bytewise_sync = let a = heap.the_sync in search (sendable, over_bytes.the_sync, rowed_bytes.the_sync) depth 20
+
+charwise_sync : IsSync charwise.the_field.row
+charwise_sync = let a = heap.the_sync in search (sendable, over_characters.the_sync, rowed_characters.the_sync) depth 20
 
 searches_sync : IsSync searches.the_row
-searches_sync = let a = heap.the_sync in search (sendable, bytewise.the_sync, rowed.the_sync) depth 20
+searches_sync = recorded_sync searches.the_field.row _ _ searches.the_type.to_one (enum_sync (enum_shape searches.the_type) ((bytewise_sync, tt), ((charwise_sync, tt), tt)))
 
 pub automaton_send : IsSend automaton.the_row
 automaton_send =
     let a = Arc-send searches.the_row searches_send searches_sync in
-    view_send _ _ _ _ _ (recorded_send inside.the_field.row _ _ inside.the_type.to_one (struct_send (shape inside.the_type) (a, (option.the_field_send _ stream_send, tt))))
+    view_send _ _ _ _ _ (recorded_send inside.the_field.row _ _ inside.the_type.to_one (struct_send (shape inside.the_type) (a, (option.the_field_send _ streams_send, tt))))

@@ -1,8 +1,12 @@
 -- A pattern behind the others.
 use Rattle.std.proofs.Common.{◌≡◌, ℕ, ◌+◌, ◌-◌, ◌≤◌, List, [], ◌∷◌, ◌++◌, length, drop, take, slice_range, refl, ap, ◌∙◌, length-append, arith}
-use Rattle.std.proofs.lemmas.List.{drop-append-le, drop_at, length-drop, length_push, take-append-le, take_all}
+use Rattle.std.proofs.lemmas.List.{drop-append-le, drop_at, length-drop, length_push, map-append, take-append-le, take_all}
+use Rattle.std.specs.Str.{chars}
 use Rattle.daachorse_c.specs.Listing.{Arrays, AreWhole, entries, last_pattern_end, one_more}
-use Rattle.daachorse_c.specs.Patterns.{AreEnds, registrations}
+use Rattle.daachorse_c.specs.declared.unit.Unit.{Unit}
+use Rattle.daachorse_c.specs.declared.unit.Unit.TheVariants.{Byte, Character}
+use Rattle.daachorse_c.specs.Patterns.{AreEnds, registrations, texts_in}
+use Rattle.daachorse_c.specs.Units.{units_in}
 
 module _ (bytes w : List ℕ) where
   before : (start e : ℕ) → start ≤ e → e ≤ length bytes → slice_range (bytes ++ w) start e ≡ slice_range bytes start e
@@ -55,3 +59,9 @@ module _ (p : Arrays) (w : List ℕ) (v : ℕ) where
 
   pub one-longer : length (one_more p w v).ends ≡ length p.ends + 1
   one-longer = length_push p.ends (length (p.bytes ++ w))
+
+-- ---- patterns as texts
+
+pub texts_of_more : (unit : Unit) (rs : List (List ℕ × ℕ)) (r : List ℕ × ℕ) → texts_in unit (rs ++ r ∷ []) ≡ texts_in unit rs ++ (units_in unit r.0, r.1) ∷ []
+texts_of_more Byte rs r = refl
+texts_of_more Character rs r = map-append (λ (x : List ℕ × ℕ). (chars x.0, x.1)) rs (r ∷ [])

@@ -1,59 +1,77 @@
 -- A stream that saves a stepper has told what this told.
-use Rattle.std.proofs.Common.{◌≡◌, ℕ, true, false, List, take, length, sym, ap, ◌∙◌, subst}
+use Rattle.std.proofs.Common.{◌≡◌, ℕ, ◌≤◌, Bool, true, false, List, [], take, length, sym, ap, ◌∙◌, subst}
 use Rattle.std.proofs.lemmas.List.{take_at}
 use Rattle.daachorse_model.specs.declared.Match.{Match}
-use Rattle.daachorse_bytewise.specs.Automata.{Automaton as Searches, dictionary_of, kind_of, states_of}
-use Rattle.daachorse_bytewise_states.specs.Parts.{content}
+use Rattle.daachorse_model.specs.declared.MatchKind.{MatchKind}
+use Rattle.daachorse_model.specs.Dictionary.{Dictionary}
+use Rattle.daachorse_search.specs.Views.{AutomatonView}
 use Rattle.daachorse_c.specs.declared.search.StreamKind.{StreamKind}
 use Rattle.daachorse_c.specs.declared.stepper.Stepper.{Stepper}
+use Rattle.daachorse_c.specs.declared.stepper.Stepper.TheVariants.{Find as Finding, Overlapping as FindingAll, Leftmost as FindingLeftmost}
 use Rattle.daachorse_c.specs.declared.stream.Stream.{Stream}
+use Rattle.daachorse_c.specs.declared.unit.Unit.{Unit}
 use Rattle.daachorse_c.specs.Searches.{ServesKind, search_of}
-use Rattle.daachorse_c.specs.Streams.{AreAllCertain, AreMarksFor, BeginEachFound, GoesOnIn, HasTold, HasToldBy, IsOpen, IsQuiet, KnowsEnd, StandsIn, folds_in, found_in, kind_by, kind_in, read_by, read_in, states_in, told_by}
+use Rattle.daachorse_c.specs.Streams.{AreAllCertain, AreMarksFor, BeginEachFound, GoesOnOver, HasTold, HasToldBy, IsOver, IsQuiet, IsUnended, KnowsEnd, StandsIn, dictionary_in, folds_in, found_in, kind_by, kind_in, read_by, read_in, told_in}
+use Rattle.daachorse_c.specs.Units.{IsOpenIn}
 use Rattle.daachorse_c.proofs.Steppers.{moved, told-certain, told-first, told-stays, told-whole}
 
--- p goes through a for this search, has told these, and is saved in t
-pub record Saves (a : Searches ℕ) (k : StreamKind) (t : Stream) (p : Stepper) (given : List (Match ℕ)) : Type 0 where
+-- a stepper over p searches by its dictionary
+pub dictionary_over : {P T U V W : Type 0} (width : ℕ → ℕ) (sees : P → AutomatonView ℕ) (p : P) (s : Stepper P P T U V W) → IsOver p p s → dictionary_in width sees sees s ≡ (sees p).content
+dictionary_over width sees p (Finding f) over = ap (λ q. (sees q).content) over
+dictionary_over width sees p (FindingAll s) over = ap (λ q. (sees q).content) over
+dictionary_over width sees p (FindingLeftmost s) over = ap (λ q. (sees q).content) over
+
+-- the stepper s goes through p for this search, has told these, and is saved in t
+pub record Saves {P T U V W : Type 0} (width : ℕ → ℕ) (sees : P → AutomatonView ℕ) (p : P) (folded : Bool) (k : StreamKind) (t : Stream ℕ) (s : Stepper P P T U V W) (given : List (Match ℕ)) : Type 0 where
   pub count : length given ≡ t.told
-  pub states : states_in p ≡ states_of a
-  pub folds : folds_in p ≡ a.folds
-  pub kind : kind_in p ≡ k
-  pub end : KnowsEnd t.ended p
-  pub tells : HasTold p given
-  pub stands : StandsIn (states_in p) t.standing
-  pub search : kind_by t.standing ≡ kind_in p
-  pub read : read_by t.standing ≡ read_in p
-  pub unended : KnowsEnd false p → IsOpen t.standing
-  pub told : (ms : List (Match ℕ)) → HasTold p ms → HasToldBy (states_in p) (folds_in p) t.standing ms
+  pub over : IsOver p p s
+  pub folds : folds_in s ≡ folded
+  pub kind : kind_in s ≡ k
+  pub end : KnowsEnd t.ended s
+  pub tells : HasTold width sees sees s given
+  pub stands : (a b : P) → IsOver a b s → StandsIn width sees sees (λ unit. unit) a b t.standing
+  pub search : kind_by t.standing ≡ kind_in s
+  pub read : read_by t.standing ≡ read_in s
+  pub unended : KnowsEnd false s → IsUnended t.standing
+  pub told : (a b : P) (ms : List (Match ℕ)) → IsOver a b s → HasTold width sees sees s ms → HasToldBy width sees sees a b (folds_in s) t.standing ms
 
-module _ {a : Searches ℕ} {k : StreamKind} {t : Stream} {p : Stepper} {given : List (Match ℕ)} (s : Saves a k t p given) where
-  has_told : HasToldBy (states_of a) a.folds t.standing given
-  has_told = subst (λ f. HasToldBy (states_of a) f t.standing given) s.folds (subst (λ q. HasToldBy q (folds_in p) t.standing given) s.states (s.told given s.tells))
+module _ {P T U V W : Type 0} {width : ℕ → ℕ} (wide : (u : ℕ) → 1 ≤ width u) {sees : P → AutomatonView ℕ} {p : P} {folded : Bool} {k : StreamKind} {t : Stream ℕ} {s : Stepper P P T U V W} {given : List (Match ℕ)} (saves : Saves width sees p folded k t s given) where
+  abbrev K : Dictionary ℕ
+  K = (sees p).content
 
-  is_open : t.ended ≡ false → IsOpen t.standing
-  is_open is = s.unended (subst (λ ended. KnowsEnd ended p) is s.end)
+  has_told : HasToldBy width sees sees p p folded t.standing given
+  has_told = subst (λ f. HasToldBy width sees sees p p f t.standing given) saves.folds (saves.told p p given saves.over saves.tells)
 
-  pub saved-told : told_by a t ≡ given
-  saved-told = let first = told-first (states_of a) a.folds t.standing given has_told in ap (take t.told) first.1 ∙ take_at given first.0 t.told s.count
+  is_open : t.ended ≡ false → IsUnended t.standing
+  is_open is = saves.unended (subst (λ ended. KnowsEnd ended s) is saves.end)
 
-  pub saved-goes_on : ServesKind (search_of k) (kind_of a) → AreMarksFor k (states_of a) t.marks → GoesOnIn a t
-  saved-goes_on serves marks =
-      let same = sym (s.search ∙ s.kind) in
+  abbrev told : List (Match ℕ)
+  told = told_in width K t
+
+  pub saved-told : told ≡ given
+  saved-told = let first = told-first width wide sees p folded t.standing given has_told in ap (take t.told) first.1 ∙ take_at given first.0 t.told saves.count
+
+  pub saved-goes_on : (which : Unit) (kind : MatchKind) → ServesKind (search_of k) kind → AreMarksFor width k (sees p) t.marks → IsOpenIn which t.begun → (t.ended ≡ true → t.begun ≡ []) → GoesOnOver which width sees p kind folded t
+  saved-goes_on which kind serves marks begun whole =
+      let same = sym (saves.search ∙ saves.kind) in
       record {
-        serves = subst (λ j. ServesKind (search_of j) (kind_of a)) same serves;
-        marks = subst (λ j. AreMarksFor j (states_of a) t.marks) same marks;
-        stands = subst (λ q. StandsIn q t.standing) s.states s.stands;
+        serves = subst (λ j. ServesKind (search_of j) kind) same serves;
+        marks = subst (λ j. AreMarksFor width j (sees p) t.marks) same marks;
+        stands = saves.stands p p saves.over;
         unended = is_open;
-        told = subst (HasToldBy (states_of a) a.folds t.standing) (sym saved-told) has_told;
-        counted = ap length saved-told ∙ s.count;
+        told = subst (HasToldBy width sees sees p p folded t.standing) (sym saved-told) has_told;
+        counted = ap length saved-told ∙ saves.count;
+        begun = begun;
+        whole = whole;
       }
 
-  pub saved-certain : t.ended ≡ false → BeginEachFound (kind_by t.standing) (dictionary_of a) (read_by t.standing) (told_by a t)
-  saved-certain is = subst (BeginEachFound (kind_by t.standing) (dictionary_of a) (read_by t.standing)) (sym saved-told) (told-stays (states_of a) a.folds t.standing given has_told (is_open is))
+  pub saved-certain : t.ended ≡ false → BeginEachFound width (kind_by t.standing) K (read_by t.standing) told
+  saved-certain is = subst (BeginEachFound width (kind_by t.standing) K (read_by t.standing)) (sym saved-told) (told-stays width wide sees p folded t.standing given has_told (is_open is))
 
-  pub saved-so_far : IsQuiet p → t.ended ≡ false → AreAllCertain (kind_by t.standing) (dictionary_of a) (read_by t.standing) (told_by a t)
+  pub saved-so_far : IsQuiet width sees sees s → t.ended ≡ false → AreAllCertain width (kind_by t.standing) K (read_by t.standing) told
   saved-so_far quiet is =
-      subst (AreAllCertain (kind_by t.standing) (dictionary_of a) (read_by t.standing)) (sym saved-told)
-      (moved (λ j q r. AreAllCertain j (content q) r given) (sym s.search) s.states (sym s.read) (told-certain p given s.tells quiet (subst (λ ended. KnowsEnd ended p) is s.end)))
+      subst (AreAllCertain width (kind_by t.standing) K (read_by t.standing)) (sym saved-told)
+      (moved (λ j D r. AreAllCertain width j D r given) (sym saves.search) (dictionary_over width sees p s saves.over) (sym saves.read) (told-certain width sees sees s given saves.tells quiet (subst (λ ended. KnowsEnd ended s) is saves.end)))
 
-  pub saved-whole : IsQuiet p → t.ended ≡ true → told_by a t ≡ found_in (kind_by t.standing) (dictionary_of a) (read_by t.standing)
-  saved-whole quiet is = saved-told ∙ moved (λ j q r. given ≡ found_in j (content q) r) (sym s.search) s.states (sym s.read) (told-whole p given s.tells quiet (subst (λ ended. KnowsEnd ended p) is s.end))
+  pub saved-whole : IsQuiet width sees sees s → t.ended ≡ true → told ≡ found_in width (kind_by t.standing) K (read_by t.standing)
+  saved-whole quiet is = saved-told ∙ moved (λ j D r. given ≡ found_in width j D r) (sym saves.search) (dictionary_over width sees p s saves.over) (sym saves.read) (told-whole width sees sees s given saves.tells quiet (subst (λ ended. KnowsEnd ended s) is saves.end))

@@ -1,5 +1,5 @@
 -- What a stream tells: what is found goes on as the text does, and what is told is written behind what was written before.
-use Rattle.std.proofs.Common.{◌≡◌, ℕ, ◌+◌, ◌-◌, ◌<◌, Bool, true, false, List, [], ◌∷◌, ◌++◌, map, take, drop, length, refl, sym, ap, ◌∙◌, append_assoc, append-nil, length-append, arith}
+use Rattle.std.proofs.Common.{◌≡◌, ℕ, ◌+◌, ◌-◌, ◌<◌, ◌≤◌, Bool, true, false, List, [], ◌∷◌, ◌++◌, map, take, drop, length, refl, sym, ap, ◌∙◌, append_assoc, append-nil, length-append, arith}
 use borrow.Rule.Slice.PartMut.{mid_of, put_mid}
 use Rattle.std.specs.Prelude.{option_to_list, slice_set}
 use Rattle.std.proofs.lemmas.List.{drop_all, drop_at, drop-drop, length-drop, length-map, length-take-le, map-append, take-append-drop, take_at, take_rest}
@@ -7,7 +7,6 @@ use Rattle.daachorse_model.specs.declared.Match.{Match}
 use Rattle.daachorse_model.specs.Dictionary.{Dictionary}
 use Rattle.daachorse_model.specs.Folding.{as_read, folded_unit}
 use Rattle.daachorse_model.specs.Matches.{at_each_end, matches_after, standard_after}
-use Rattle.daachorse_model.specs.Units.{byte_width}
 use Rattle.daachorse_model.proofs.StandardEnds.{standard-joined}
 use Rattle.daachorse_search.specs.Scans.{past_each_end}
 use Rattle.daachorse_search.proofs.ScanLaws.{at_each_end-split, past_each_end-append}
@@ -20,7 +19,7 @@ use Rattle.daachorse_c.proofs.Writing.{one_longer, one_more}
 
 -- ---- what is found
 
--- a byte is read as one byte
+-- a unit is read as one unit
 abbrev unit_as_read : Bool → ℕ → ℕ
 unit_as_read true u = folded_unit u
 unit_as_read false u = u
@@ -39,41 +38,42 @@ module _ (found f : List ℕ → List (Match ℕ)) (each : (h : List ℕ) → fo
       ∙ sym (append_assoc (f []) (past_each_end f [] h) (past_each_end f h more))
       ∙ ap (λ l. l ++ past_each_end f h more) (sym (at_each_end-split f [] h) ∙ sym (each h))
 
-  joined-byte : (folds : Bool) (h text : List ℕ) (u : ℕ) → text ≡ h ++ as_read folds (u ∷ []) → found text ≡ found h ++ f text
-  joined-byte folds h text u read =
+  joined-unit : (folds : Bool) (h text : List ℕ) (u : ℕ) → text ≡ h ++ as_read folds (u ∷ []) → found text ≡ found h ++ f text
+  joined-unit folds h text u read =
       let one = read ∙ ap (λ l. h ++ l) (one_as_read folds u) in
       ap found one ∙ joined-append h (unit_as_read folds u ∷ []) ∙ ap (λ t. found h ++ f t) (sym one)
 
-module _ (K : Dictionary ℕ) where
+module _ (width : ℕ → ℕ) (K : Dictionary ℕ) where
   -- what the standard search, and that for all or the longest matches, find at the end of a text
   abbrev pub last_found : List ℕ → List (Match ℕ)
-  last_found t = option_to_list (standard_after byte_width K t)
+  last_found t = option_to_list (standard_after width K t)
 
   abbrev pub all_found : Bool → List ℕ → List (Match ℕ)
-  all_found longest_only t = all_or_first longest_only (matches_after byte_width K t)
+  all_found longest_only t = all_or_first longest_only (matches_after width K t)
 
-  find-each : (h : List ℕ) → found_in Find K h ≡ at_each_end last_found [] h
-  find-each h = sym (standard-joined byte_width K (λ u. omega arith) h)
+module _ (width : ℕ → ℕ) (wide : (u : ℕ) → 1 ≤ width u) (K : Dictionary ℕ) where
+  find-each : (h : List ℕ) → found_in width Find K h ≡ at_each_end (last_found width K) [] h
+  find-each h = sym (standard-joined width K wide h)
 
-  all-each : (longest_only : Bool) (h : List ℕ) → found_in (all_or_longest longest_only) K h ≡ at_each_end (all_found longest_only) [] h
+  all-each : (longest_only : Bool) (h : List ℕ) → found_in width (all_or_longest longest_only) K h ≡ at_each_end (all_found width K longest_only) [] h
   all-each true h = refl
   all-each false h = refl
 
-  -- one byte more: what ends there is found behind all others
-  pub find-byte : (folds : Bool) (h text : List ℕ) (u : ℕ) → text ≡ h ++ as_read folds (u ∷ []) → found_in Find K text ≡ found_in Find K h ++ last_found text
-  find-byte = joined-byte (found_in Find K) last_found find-each
+  -- one unit more: what ends there is found behind all others
+  pub find-unit : (folds : Bool) (h text : List ℕ) (u : ℕ) → text ≡ h ++ as_read folds (u ∷ []) → found_in width Find K text ≡ found_in width Find K h ++ last_found width K text
+  find-unit = joined-unit (found_in width Find K) (last_found width K) find-each
 
-  pub all-byte : (longest_only folds : Bool) (h text : List ℕ) (u : ℕ) → text ≡ h ++ as_read folds (u ∷ []) → found_in (all_or_longest longest_only) K text ≡ found_in (all_or_longest longest_only) K h ++ all_found longest_only text
-  all-byte longest_only = joined-byte (found_in (all_or_longest longest_only) K) (all_found longest_only) (all-each longest_only)
+  pub all-unit : (longest_only folds : Bool) (h text : List ℕ) (u : ℕ) → text ≡ h ++ as_read folds (u ∷ []) → found_in width (all_or_longest longest_only) K text ≡ found_in width (all_or_longest longest_only) K h ++ all_found width K longest_only text
+  all-unit longest_only = joined-unit (found_in width (all_or_longest longest_only) K) (all_found width K longest_only) (all-each longest_only)
 
   -- what was told begins what is found in each text that goes on
-  pub find-stays : (h : List ℕ) (told left : List (Match ℕ)) → found_in Find K h ≡ told ++ left → BeginEachFound Find K h told
-  find-stays h told left is = λ more. let next = past_each_end last_found h more in
-      (left ++ next, joined-append (found_in Find K) last_found find-each h more ∙ ap (λ l. l ++ next) is ∙ append_assoc told left next)
+  pub find-stays : (h : List ℕ) (told left : List (Match ℕ)) → found_in width Find K h ≡ told ++ left → BeginEachFound width Find K h told
+  find-stays h told left is = λ more. let next = past_each_end (last_found width K) h more in
+      (left ++ next, joined-append (found_in width Find K) (last_found width K) find-each h more ∙ ap (λ l. l ++ next) is ∙ append_assoc told left next)
 
-  pub all-stays : (longest_only : Bool) (h : List ℕ) (told left : List (Match ℕ)) → found_in (all_or_longest longest_only) K h ≡ told ++ left → BeginEachFound (all_or_longest longest_only) K h told
-  all-stays longest_only h told left is = λ more. let kind = all_or_longest longest_only in let f = all_found longest_only in let next = past_each_end f h more in
-      (left ++ next, joined-append (found_in kind K) f (all-each longest_only) h more ∙ ap (λ l. l ++ next) is ∙ append_assoc told left next)
+  pub all-stays : (longest_only : Bool) (h : List ℕ) (told left : List (Match ℕ)) → found_in width (all_or_longest longest_only) K h ≡ told ++ left → BeginEachFound width (all_or_longest longest_only) K h told
+  all-stays longest_only h told left is = λ more. let kind = all_or_longest longest_only in let f = all_found width K longest_only in let next = past_each_end f h more in
+      (left ++ next, joined-append (found_in width kind K) f (all-each longest_only) h more ∙ ap (λ l. l ++ next) is ∙ append_assoc told left next)
 
 -- ---- what is told
 

@@ -1,6 +1,9 @@
+pub mod Admitting
+pub mod Automata
 pub mod Building
 pub mod Characters
 pub mod Counts
+pub mod Feeding
 pub mod Handle
 pub mod Held
 pub mod Listing
@@ -10,8 +13,11 @@ pub mod Places
 pub mod Refusals
 pub mod Replacing
 pub mod Searches
+pub mod Spelling
 pub mod Streaming
 pub mod Streams
 pub mod Tellers
+pub mod Through
+pub mod Units
 pub mod Writes
 pub mod Written

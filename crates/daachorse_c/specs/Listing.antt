@@ -1,13 +1,13 @@
 -- What a listing for C promises, and why it is refused: the patterns of an automaton, in the form in which a build takes them.
 use Rattle.std.specs.Prelude.{◌≡◌, ◌⊎◌, ℕ, ◌<◌, ◌≤◌, List, [], ◌∷◌, ◌++◌, length, Option, IsSomeAnd}
 use Rattle.daachorse_model.specs.Prefixes.{IsListing}
-use Rattle.daachorse_bytewise.specs.Automata.{Automaton as Searches, dictionary_of}
 use Rattle.daachorse_c.specs.declared.listing.Listing.{Listing}
 use Rattle.daachorse_c.specs.declared.listing.Room.{Room}
 use Rattle.daachorse_c.specs.declared.refusal.Refusal.{Refusal}
 use Rattle.daachorse_c.specs.declared.refusal.Refusal.TheVariants.{NoRoom, OutOfMemory}
+use Rattle.daachorse_c.specs.Automata.{Automaton, dictionary_of, unit_of}
 use Rattle.daachorse_c.specs.Held.{Held}
-use Rattle.daachorse_c.specs.Patterns.{ArePatterns, registrations}
+use Rattle.daachorse_c.specs.Patterns.{ArePatterns, AreTexts, registrations, texts_in}
 use Rattle.daachorse_c.specs.Searches.{IsUseCause}
 use Rattle.daachorse_c.specs.Written.{StandsInFront}
 
@@ -42,12 +42,13 @@ abbrev pub entries : Arrays → List (List ℕ × ℕ)
 entries p = registrations p.bytes 0 p.ends p.values
 
 -- they are the patterns that the automaton holds, in byte order, and equal ones as they were registered
-pub record ArePatternsOf (a : Searches ℕ) (p : Arrays) : Type 0 where
+pub record ArePatternsOf (a : Automaton) (p : Arrays) : Type 0 where
   pub whole : AreWhole p
-  pub listing : IsListing (dictionary_of a) (entries p)
+  pub texts : AreTexts (unit_of a) (entries p)
+  pub listing : IsListing (dictionary_of a) (texts_in (unit_of a) (entries p))
 
 -- the same, of so many bytes and so many patterns
-pub record AreListedIn (a : Searches ℕ) (p : Arrays) (size count : ℕ) : Type 0 where
+pub record AreListedIn (a : Automaton) (p : Arrays) (size count : ℕ) : Type 0 where
   pub listed : ArePatternsOf a p
   pub bytes : size ≡ length p.bytes
   pub patterns : count ≡ length p.ends
@@ -58,7 +59,7 @@ pub record Fits (l : Listing) (room : Room) : Type 0 where
   pub patterns : l.count ≤ room.patterns
 
 -- the automaton's patterns were counted, and all of them are kept where there is room
-pub record IsListingWithin (a : Searches ℕ) (room : Room) (l : Listing) : Type 0 where
+pub record IsListingWithin (a : Automaton) (room : Room) (l : Listing) : Type 0 where
   pub listed : Arrays
   pub counted : AreListedIn a listed l.size l.count
   pub kept : Fits l room → arrays_of l ≡ listed
@@ -74,7 +75,7 @@ abbrev pub LackRoom : Arrays → Arrays → Type 0
 LackRoom p room = (length room.bytes < length p.bytes) ⊎ (length room.ends < length p.ends) ⊎ (length room.values < length p.values)
 
 -- the automaton's patterns stand at the beginning of the arrays, and are told to be so many bytes and so many patterns
-abbrev pub HasListed : Searches ℕ → Arrays → Arrays → ℕ → ℕ → Type 0
+abbrev pub HasListed : Automaton → Arrays → Arrays → ℕ → ℕ → Type 0
 HasListed a old new size count = (p : Arrays) × AreListedIn a p size count × StandInFront p old new
 
 -- no number is told
@@ -82,7 +83,7 @@ abbrev pub TellsNone : ℕ → ℕ → Type 0
 TellsNone size count = (size ≡ 0) × (count ≡ 0)
 
 -- why an automaton's patterns are not written to these arrays, and what is told then
-abbrev pub IsNotListed : Searches ℕ → Arrays → ℕ → ℕ → Refusal → Type 0
+abbrev pub IsNotListed : Automaton → Arrays → ℕ → ℕ → Refusal → Type 0
 IsNotListed a room size count r =
     ((r ≡ OutOfMemory) × TellsNone size count) ⊎ ((r ≡ NoRoom) × ((p : Arrays) × AreListedIn a p size count × LackRoom p room))
 

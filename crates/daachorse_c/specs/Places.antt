@@ -4,57 +4,58 @@ use Rattle.daachorse_model.specs.declared.Match.{Match}
 use Rattle.daachorse_model.specs.declared.MatchKind.{MatchKind}
 use Rattle.daachorse_model.specs.declared.MatchKind.TheVariants.{Standard, LeftmostLongest, LeftmostFirst}
 use Rattle.daachorse_model.specs.Dictionary.{Dictionary}
-use Rattle.daachorse_model.specs.Folding.{as_read}
 use Rattle.daachorse_model.specs.Leftmost.{leftmost_from}
 use Rattle.daachorse_model.specs.Matches.{standard, shifted}
-use Rattle.daachorse_model.specs.Units.{byte_width}
-use Rattle.daachorse_bytewise.specs.Automata.{Automaton, dictionary_of, kind_of}
 use Rattle.daachorse_c.specs.declared.found.CMatch.{CMatch}
 use Rattle.daachorse_c.specs.declared.place.Place.{Place}
 use Rattle.daachorse_c.specs.declared.refusal.Refusal.{Refusal}
 use Rattle.daachorse_c.specs.declared.refusal.Refusal.TheVariants.{WrongPlace}
+use Rattle.daachorse_c.specs.Automata.{Automaton, Reads, dictionary_of, kind_of, text_read, width_of}
 use Rattle.daachorse_c.specs.Held.{Held}
 use Rattle.daachorse_c.specs.Refusals.{IsDoneOr}
-use Rattle.daachorse_c.specs.Searches.{IsUseCause}
+use Rattle.daachorse_c.specs.Searches.{IsUnreadCause, IsUseCause}
 use Rattle.daachorse_c.specs.Writes.{Writes}
 
 -- the matches that do not overlap in what is left of a haystack, which begins at the place: of a leftmost search no empty one there, if a nonempty one ends there
-abbrev pub found_from : MatchKind → Dictionary ℕ → ℕ → Bool → List ℕ → List (Match ℕ)
-found_from Standard K at after rest = map (shifted at) (standard byte_width K rest)
-found_from LeftmostLongest K at after rest = leftmost_from byte_width K at 0 after rest
-found_from LeftmostFirst K at after rest = leftmost_from byte_width K at 0 after rest
+module _ (width : ℕ → ℕ) (K : Dictionary ℕ) where
+  abbrev pub found_from : MatchKind → ℕ → Bool → List ℕ → List (Match ℕ)
+  found_from Standard at after rest = map (shifted at) (standard width K rest)
+  found_from LeftmostLongest at after rest = leftmost_from width K at 0 after rest
+  found_from LeftmostFirst at after rest = leftmost_from width K at 0 after rest
 
--- those that are left at the place
-abbrev pub left_at : MatchKind → Dictionary ℕ → List ℕ → Place → List (Match ℕ)
-left_at kind K haystack p = cond p.over [] (found_from kind K p.at p.after (drop p.at haystack))
+-- those that are left at the place in a haystack
+abbrev pub left_of : Automaton → List ℕ → Place → List (Match ℕ)
+left_of a haystack p = cond p.over [] (found_from (width_of a) (dictionary_of a) (kind_of a) p.at p.after (text_read a (drop p.at haystack)))
+
+-- a place in a haystack, which is not inside a character of one that is text
+pub record IsPlaceIn (a : Automaton) (haystack : List ℕ) (at : ℕ) : Type 0 where
+  pub within : at ≤ length haystack
+  pub reads : Reads a (drop at haystack)
 
 -- the place at which the search goes on as if no match ended there
 abbrev pub afresh : Place → Place
 afresh p = record p { after = false }
 
--- The place is behind the match, in a haystack of so many bytes: at the end of a nonempty match, and one byte behind an empty one, where the haystack has one.
-pub record StandsBehind (m : Match ℕ) (size : ℕ) (p : Place) : Type 0 where
+-- The place is behind the match, in a haystack of so many bytes: at the end of a nonempty match, and one unit, of `step` bytes, behind an empty one, where the haystack has one.
+pub record StandsBehind (m : Match ℕ) (step size : ℕ) (p : Place) : Type 0 where
   pub nonempty : m.start < m.end → p ≡ record { at = m.end; after = true; over = false }
-  pub empty : m.end ≤ m.start → m.end < size → p ≡ record { at = m.end + 1; after = false; over = false }
+  pub empty : m.end ≤ m.start → m.end < size → p ≡ record { at = m.end + step; after = false; over = false }
   pub last : m.end ≤ m.start → m.end ≡ size → p ≡ record { at = m.end; after = false; over = true }
   pub within : p.at ≤ size
 
--- the same of the haystack as an automaton reads it
-abbrev pub left_of : Automaton ℕ → List ℕ → Place → List (Match ℕ)
-left_of a haystack p = left_at (kind_of a) (dictionary_of a) (as_read a.folds haystack) p
-
 -- the first of them were written, and the search goes on behind these
-pub record GoesOn (a : Automaton ℕ) (haystack : List ℕ) (p q : Place) (old new : List CMatch) (written : ℕ) : Type 0 where
+pub record GoesOn (a : Automaton) (haystack : List ℕ) (p q : Place) (old new : List CMatch) (written : ℕ) : Type 0 where
+  pub reads : Reads a haystack
   pub writes : Writes (left_of a haystack p) old new written
   pub left : left_of a haystack q ≡ drop written (left_of a haystack p)
 
--- why a search does not go on in a haystack of so many bytes
-abbrev pub IsStuckCause : ℕ → Place → Refusal → Type 0
-IsStuckCause size p r = (r ≡ WrongPlace) × (size < p.at)
+-- why a search does not go on from a place in a haystack
+abbrev pub IsStuckCause : List ℕ → Automaton → Place → Refusal → Type 0
+IsStuckCause haystack a p r = ((r ≡ WrongPlace) × ¬ IsPlaceIn a haystack p.at) ⊎ IsUnreadCause haystack a r
 
 -- What a call does for a search that goes on: it leaves the handle as it was, writes the first matches that are left and moves the place behind them, or says why it is refused and changes nothing.
 pub record IsGoingOn (haystack : List ℕ) (old new : Option Held) (p q : Place) (out_old out_new : List CMatch) (written answer : ℕ) : Type 0 where
   pub kept : new ≡ old
   pub found : answer ≡ 0 → IsSomeAnd old (λ a. GoesOn a.searches haystack p q out_old out_new written)
-  pub refused : IsDoneOr (λ r. IsUseCause old r ⊎ IsStuckCause (length haystack) p r) answer
+  pub refused : IsDoneOr (λ r. IsUseCause old r ⊎ IsSomeAnd old (λ a. IsStuckCause haystack a.searches p r)) answer
   pub unwritten : answer ≢ 0 → (q ≡ p) × (out_new ≡ out_old) × (written ≡ 0)

@@ -5,7 +5,7 @@ use Rattle.daachorse_core.specs.declared.errors.DaachorseError.TheVariants.{Inva
 use Rattle.daachorse_core.specs.declared.errors.Limit.{Limit}
 use Rattle.daachorse_core.specs.declared.errors.Limit.TheVariants.{PatternValues, StateId, NumElements, Outputs, OutputPos}
 use Rattle.daachorse_c.specs.declared.refusal.Refusal.{Refusal}
-use Rattle.daachorse_c.specs.declared.refusal.Refusal.TheVariants.{OutOfMemory, EmptyHandle, UnknownKind, WrongKind, WrongPatterns, PatternTooLong, TooManyStates, TooManyPatterns, TooManyElements, InvalidAutomaton, NoRoom, NoStream, StreamTooLong, UnknownOption, WrongPlace, UnknownSearch, StreamEnded}
+use Rattle.daachorse_c.specs.declared.refusal.Refusal.TheVariants.{OutOfMemory, EmptyHandle, UnknownKind, WrongKind, WrongPatterns, PatternTooLong, TooManyStates, TooManyPatterns, TooManyElements, InvalidAutomaton, NoRoom, NoStream, StreamTooLong, UnknownOption, WrongPlace, UnknownSearch, StreamEnded, InvalidUtf8}
 
 abbrev pub refusal_number : Refusal → ℕ
 refusal_number OutOfMemory = 1
@@ -25,6 +25,7 @@ refusal_number UnknownOption = 14
 refusal_number WrongPlace = 15
 refusal_number UnknownSearch = 16
 refusal_number StreamEnded = 17
+refusal_number InvalidUtf8 = 18
 
 -- a call answers 0, or the number of a refusal for which P holds
 abbrev pub IsDoneOr : (Refusal → Type 0) → ℕ → Type 0

@@ -2,21 +2,33 @@
 use Rattle.std.specs.Prelude.{◌≡◌, ◌⊎◌, ℕ, ◌+◌, ◌<◌, ◌≤◌, ◌^◌, List, [], ◌++◌, drop, length, Option, IsSomeAnd}
 use Rattle.std.specs.Int.{w32}
 use Rattle.daachorse_serializer.specs.Forms.{number_form, take_number}
-use Rattle.daachorse_bytewise.specs.Automata.{Automaton as Searches}
-use Rattle.daachorse_bytewise.specs.ReadForms.{GivesAutomaton, GivesNoAutomaton}
-use Rattle.daachorse_bytewise.specs.WrittenForms.{BeginsWithAutomaton, IsAutomaton, without_depths, written_form}
+use Rattle.daachorse_bytewise.specs.ReadForms.{GivesAutomaton as GivesBytewise, GivesNoAutomaton as GivesNoBytewise}
+use Rattle.daachorse_bytewise.specs.WrittenForms.{BeginsWithAutomaton as BeginsWithBytewise, IsAutomaton as IsBytewise, without_depths as bytewise_alone, written_form as bytewise_form}
+use Rattle.daachorse_charwise.specs.ReadForms.{GivesAutomaton as GivesCharwise, GivesNoAutomaton as GivesNoCharwise}
+use Rattle.daachorse_charwise.specs.WrittenForms.{BeginsWithAutomaton as BeginsWithCharwise, IsAutomaton as IsCharwise, without_depths as charwise_alone, written_form as charwise_form}
 use Rattle.daachorse_c.specs.declared.refusal.Refusal.{Refusal}
-use Rattle.daachorse_c.specs.declared.refusal.Refusal.TheVariants.{OutOfMemory, InvalidAutomaton, NoRoom}
+use Rattle.daachorse_c.specs.declared.refusal.Refusal.TheVariants.{OutOfMemory, InvalidAutomaton, NoRoom, UnknownOption}
+use Rattle.daachorse_c.specs.declared.unit.Unit.{Unit}
+use Rattle.daachorse_c.specs.declared.unit.Unit.TheVariants.{Byte, Character}
+use Rattle.daachorse_c.specs.Automata.{Automaton, Bytes, Characters, unit_of}
 use Rattle.daachorse_c.specs.Held.{Held}
 use Rattle.daachorse_c.specs.Searches.{IsUseCause}
+use Rattle.daachorse_c.specs.Units.{unit_numbered}
 
--- the written form of an automaton whose values have 32 bits
-abbrev pub form_of : Searches ℕ → List ℕ
-form_of a = written_form (number_form w32) a
+-- the written form of an automaton, whose values have 32 bits
+abbrev pub form_of : Automaton → List ℕ
+form_of (Bytes a) = bytewise_form (number_form w32) a
+form_of (Characters a) = charwise_form (number_form w32) a
 
 -- an automaton in hand whose values have 32 bits
-abbrev pub IsWhole : Searches ℕ → Type 0
-IsWhole = IsAutomaton (λ v. v < 2 ^ 32)
+abbrev pub IsWhole : Automaton → Type 0
+IsWhole (Bytes a) = IsBytewise (λ v. v < 2 ^ 32) a
+IsWhole (Characters a) = IsCharwise (λ v. v < 2 ^ 32) a
+
+-- the same automaton, where no depths are cached
+abbrev pub without_depths : Automaton → Automaton
+without_depths (Bytes a) = Bytes (bytewise_alone a)
+without_depths (Characters a) = Characters (charwise_alone a)
 
 -- they stand at the beginning, and behind them what was there
 pub record StandsInFront (items old new : List ℕ) : Type 0 where
@@ -24,26 +36,35 @@ pub record StandsInFront (items old new : List ℕ) : Type 0 where
   pub copied : new ≡ items ++ drop (length items) old
 
 -- why an automaton is not written to this room, and what `size` tells then
-abbrev pub IsNotWritten : Searches ℕ → List ℕ → ℕ → Refusal → Type 0
+abbrev pub IsNotWritten : Automaton → List ℕ → ℕ → Refusal → Type 0
 IsNotWritten a room size r = ((r ≡ OutOfMemory) × (size ≡ 0)) ⊎ ((r ≡ NoRoom) × (size ≡ length (form_of a)) × (length room < size))
 
 -- why a call to write is refused, and what `size` tells then
 abbrev pub IsWriteCause : Option Held → List ℕ → ℕ → Refusal → Type 0
 IsWriteCause held room size r = (IsUseCause held r × (size ≡ 0)) ⊎ IsSomeAnd held (λ a. IsNotWritten a.searches room size r)
 
--- The bytes begin with this automaton, which takes so many of them and has no depths cached. Where they begin with what was written of one, it is that one.
-pub record IsRead (bytes : List ℕ) (a : Searches ℕ) (count : ℕ) : Type 0 where
+-- the bytes begin with this automaton, these are left, and no depths are cached
+abbrev pub GivesAutomaton : List ℕ → Automaton → List ℕ → Type 0
+GivesAutomaton bytes (Bytes a) rest = GivesBytewise (take_number w32) bytes a rest × (a.depths ≡ [])
+GivesAutomaton bytes (Characters a) rest = GivesCharwise (take_number w32) bytes a rest × (a.depths ≡ [])
+
+-- the bytes begin with no automaton over this unit, and so not with what was written of one
+abbrev pub GivesNone : Unit → List ℕ → Type 0
+GivesNone Byte bytes = GivesNoBytewise (take_number w32) bytes × ¬ BeginsWithBytewise (λ v. v < 2 ^ 32) (number_form w32) bytes
+GivesNone Character bytes = GivesNoCharwise (take_number w32) bytes × ¬ BeginsWithCharwise (λ v. v < 2 ^ 32) (number_form w32) bytes
+
+-- The bytes begin with this automaton over the unit, which takes so many of them. Where they begin with what was written of one, it is that one.
+pub record IsRead (unit : Unit) (bytes : List ℕ) (a : Automaton) (count : ℕ) : Type 0 where
+  pub over : unit_of a ≡ unit
   pub rest : List ℕ
-  pub given : GivesAutomaton (take_number w32) bytes a rest
+  pub given : GivesAutomaton bytes a rest
   pub taken : count + length rest ≡ length bytes
-  pub depths : a.depths ≡ []
-  pub back : (written : Searches ℕ) (behind : List ℕ) → IsWhole written → bytes ≡ form_of written ++ behind → (a ≡ without_depths written) × (count ≡ length (form_of written))
+  pub back : (written : Automaton) (behind : List ℕ) → unit_of written ≡ unit → IsWhole written → bytes ≡ form_of written ++ behind → (a ≡ without_depths written) × (count ≡ length (form_of written))
 
--- the bytes begin with no automaton, and so not with what was written of one
-pub record GiveNone (bytes : List ℕ) : Type 0 where
-  pub given : GivesNoAutomaton (take_number w32) bytes
-  pub written : BeginsWithAutomaton (λ v. v < 2 ^ 32) (number_form w32) bytes → ⊥
+-- why bytes are not read as an automaton over the unit
+abbrev pub IsReadCause : Unit → List ℕ → Refusal → Type 0
+IsReadCause unit bytes r = (r ≡ OutOfMemory) ⊎ ((r ≡ InvalidAutomaton) × GivesNone unit bytes)
 
--- why bytes are not read
-abbrev pub IsReadCause : List ℕ → Refusal → Type 0
-IsReadCause bytes r = (r ≡ OutOfMemory) ⊎ ((r ≡ InvalidAutomaton) × GiveNone bytes)
+-- why bytes are not read as an automaton over the unit with this number
+abbrev pub IsReadWithCause : ℕ → List ℕ → Refusal → Type 0
+IsReadWithCause unit bytes r = ((r ≡ UnknownOption) × (1 < unit)) ⊎ IsReadCause (unit_numbered unit) bytes r

@@ -2,23 +2,20 @@
 
 ghost use Rattle.std.specs.Prelude.{◌≡◌, ◌≢◌, ◌↔◌, [], None, IfErr, IfOk, IsTrue, OnErr, OnOk, length};
 ghost use Rattle.std.specs.Arc.{arc_value};
-ghost use Rattle.daachorse_model.specs.Folding.{as_read};
 ghost use Rattle.daachorse_model.specs.Kinds.{byte_of_kind};
-ghost use Rattle.daachorse_model.specs.Matches.{overlapping};
-ghost use Rattle.daachorse_model.specs.Units.{byte_width};
-ghost use Rattle.daachorse_bytewise.specs.Automata.{dictionary_of, kind_of};
-ghost use Rattle.daachorse_c.specs.declared.refusal.Refusal.TheVariants.{OutOfMemory, WrongKind};
+ghost use Rattle.daachorse_c.specs.declared.refusal.Refusal.TheVariants.{OutOfMemory};
+ghost use Rattle.daachorse_c.specs.Automata.{folds_of, kind_of};
 ghost use Rattle.daachorse_c.specs.Counts.{AreCounts};
 ghost use Rattle.daachorse_c.specs.Held.{automaton_of};
 ghost use Rattle.daachorse_c.specs.Listing.{IsNotListed, HasListed, arrays};
 ghost use Rattle.daachorse_c.specs.Places.{GoesOn, IsStuckCause};
 ghost use Rattle.daachorse_c.specs.Replacing.{HasReplaced, IsNotReplaced};
-ghost use Rattle.daachorse_c.specs.Searches.{ServesKind, found_by};
-ghost use Rattle.daachorse_c.specs.Streaming.{HasBegun, HasConsumed, HasEnded, IsIdleCause, IsNotBegun, IsStreamless};
-ghost use Rattle.daachorse_c.specs.Writes.{Writes};
+ghost use Rattle.daachorse_c.specs.Searches.{HasFound, IsAnswer, IsNotFound, IsUnreadCause};
+ghost use Rattle.daachorse_c.specs.Streaming.{HasBegun, HasConsumed, HasEnded, IsIdleCause, IsNotBegun, IsUnendedCause};
 ghost use Rattle.daachorse_c.specs.Written.{IsNotWritten, IsWhole, StandsInFront, form_of};
 
 use crate::counts::Counts;
+use crate::feeding::Done;
 use crate::found::CMatch;
 use crate::listing::{Listing, Room};
 use crate::place::Place;
@@ -27,44 +24,40 @@ use crate::replacing::Texts;
 use crate::room::{copy_to_front, put_in_front};
 use crate::search::{SearchKind, StreamKind};
 use crate::searches::Searches;
-use crate::stream::{Done, Stream};
-use daachorse::DoubleArrayAhoCorasick;
+use crate::streams::Streams;
 use std::alloc::Global;
 use std::marker::Model;
 use std::sync::Arc;
 
-/// An automaton over bytes with 32-bit values, which several handles may share, and the stream that
-/// this one searches, if any.
+/// An automaton with 32-bit values, which several handles may share, and the stream that this one
+/// searches, if any.
 #[derive(Drop)]
 pub struct Searcher {
     searches: Arc<Searches, Global>,
-    stream: Option<Stream>,
+    stream: Option<Streams>,
 }
 
 impl Model for Searcher {
-    ghost use Rattle.std.specs.Prelude.{IfSome};
+    ghost use Rattle.std.specs.Prelude.{IfSome, option_map};
     ghost use Rattle.std.specs.Arc.{arc_value};
-    ghost use Rattle.daachorse_c.specs.Held.{Held, automaton_of};
-    ghost use Rattle.daachorse_c.specs.Streams.{GoesOnIn};
+    ghost use Rattle.daachorse_c.specs.Held.{Held, automaton_of, stream_of};
+    ghost use Rattle.daachorse_c.specs.Through.{GoesThrough};
 
     ghost Value = { Held };
 
-    ghost view = { λ a. record { searches = automaton_of (arc_value a.searches); stream = a.stream } };
+    ghost view = { λ a. record { searches = automaton_of (arc_value a.searches); stream = option_map stream_of a.stream } };
 
-    ghost invariant = { λ a. IfSome a.stream (GoesOnIn (automaton_of (arc_value a.searches))) };
+    ghost invariant = { λ a. IfSome a.stream (GoesThrough (automaton_of (arc_value a.searches))) };
 }
 
 impl Searcher {
     /// A searcher with no stream. Fails only if an allocation fails.
-    pub(crate) fn new(
-        alloc: Global,
-        automaton: DoubleArrayAhoCorasick<u32, Global>,
-    ) -> Result<Box<Searcher, Global>, Refusal>
-        ensures searches { IfOk result (λ b. b.value.searches ≡ automaton) }
+    pub(crate) fn new(alloc: Global, searches: Searches) -> Result<Box<Searcher, Global>, Refusal>
+        ensures searches { IfOk result (λ b. b.value.searches ≡ automaton_of searches) }
         ensures stream { IfOk result (λ b. b.value.stream ≡ None) }
         ensures err { IfErr result (λ r. r ≡ OutOfMemory) }
     {
-        Searcher::over(alloc, Arc::new(alloc, Searches::Plain(automaton))?)
+        Searcher::over(alloc, Arc::new(alloc, searches)?)
     }
 
     /// A searcher of a copy of the automaton, with rows unless it is too large, and no stream.
@@ -74,22 +67,22 @@ impl Searcher {
         ensures stream { IfOk result (λ b. b.value.stream ≡ None) }
         ensures err { IfErr result (λ r. r ≡ OutOfMemory) }
     {
-        let copy = self.searches.automaton().clone()?;
-        Searcher::over(alloc, Arc::new(alloc, Searches::with_rows(alloc, copy)?)?)
+        let copy = self.searches.accelerated(alloc)?;
+        Searcher::over(alloc, Arc::new(alloc, copy)?)
     }
 
     /// The number of the kind of searches that the automaton is for.
     pub(crate) fn kind(&self) -> u32
         ensures { result ≡ byte_of_kind (kind_of self.now.searches) }
     {
-        u32::from(u8::from(self.searches.automaton().match_kind()))
+        u32::from(u8::from(self.searches.match_kind()))
     }
 
     /// Whether searches ignore the case of ASCII letters.
     pub(crate) fn is_ascii_case_insensitive(&self) -> bool
-        ensures { result ≡ self.now.searches.folds }
+        ensures { result ≡ folds_of self.now.searches }
     {
-        self.searches.automaton().is_ascii_case_insensitive()
+        self.searches.is_ascii_case_insensitive()
     }
 
     /// Counts what the automaton holds. Fails only if an allocation fails.
@@ -97,13 +90,7 @@ impl Searcher {
         ensures counts { IfOk result (AreCounts self.now.searches) }
         ensures err { IfErr result (λ r. r ≡ OutOfMemory) }
     {
-        let automaton = self.searches.automaton();
-        Ok(Counts {
-            patterns: automaton.num_patterns(alloc)?,
-            states: automaton.num_states(),
-            size: automaton.serialize(alloc)?.len(),
-            longest: automaton.max_pattern_len(alloc)?,
-        })
+        self.searches.counts(alloc)
     }
 
     /// Another searcher of the same automaton, with no stream. Fails only if an allocation fails.
@@ -131,26 +118,27 @@ impl Searcher {
     }
 
     /// Writes the first matches of a search, as many as there is room for, and returns their
-    /// number. Fails if the search does not serve automata of this kind.
+    /// number. Fails if the search does not serve automata of this kind, or the automaton cannot
+    /// read the haystack.
     pub(crate) fn find(
         &self,
         search: SearchKind,
         haystack: &[u8],
         out: &mut [CMatch],
     ) -> Result<usize, Refusal>
-        ensures found { IfOk result (Writes (found_by search (dictionary_of self.now.searches) (as_read self.now.searches.folds haystack.now)) out.old out.new) }
-        ensures err { IfErr result (λ r. (r ≡ WrongKind) × (ServesKind search (kind_of self.now.searches) → ⊥)) }
+        ensures found { IfOk result (HasFound search haystack.now self.now.searches out.old out.new) }
+        ensures err { IfErr result (IsNotFound search haystack.now self.now.searches) }
         ensures unwritten { IfErr result (λ _. out.new ≡ out.old) }
     {
-        if !search.is_for(self.searches.automaton().match_kind()) {
+        if !search.is_for(self.searches.match_kind()) {
             return Err(Refusal::WrongKind);
         }
-        Ok(self.searches.find(search, haystack, out))
+        Ok(self.searches.reading(haystack)?.find(search, out))
     }
 
     /// Writes the matches from the place on that do not overlap, as many as there is room for, and
-    /// returns their number. Moves the place behind the last one. Fails if it is behind the
-    /// haystack.
+    /// returns their number. Moves the place behind the last one. Fails if the automaton cannot
+    /// read the haystack, or if the place is behind it or inside a character.
     pub(crate) fn find_on(
         &self,
         haystack: &[u8],
@@ -158,20 +146,22 @@ impl Searcher {
         out: &mut [CMatch],
     ) -> Result<usize, Refusal>
         ensures found { IfOk result (GoesOn self.now.searches haystack.now place.old place.new out.old out.new) }
-        ensures err { IfErr result (IsStuckCause (length haystack.now) place.old) }
+        ensures err { IfErr result (IsStuckCause haystack.now self.now.searches place.old) }
         ensures unchanged { IfErr result (λ _. (place.new ≡ place.old) × (out.new ≡ out.old)) }
     {
-        if place.at > haystack.len() {
-            return Err(Refusal::WrongPlace);
+        let search = self.searches.reading(haystack)?;
+        match search.part(place.at) {
+            Some(_) => Ok(search.find_on(place, out)),
+            None => Err(Refusal::WrongPlace),
         }
-        Ok(self.searches.find_on(haystack, place, out))
     }
 
-    /// Returns whether some pattern occurs.
-    pub(crate) fn is_match(&self, haystack: &[u8]) -> bool
-        ensures { IsTrue result ↔ (overlapping byte_width (dictionary_of self.now.searches) (as_read self.now.searches.folds haystack.now) ≢ []) }
+    /// Returns whether some pattern occurs. Fails if the automaton cannot read the haystack.
+    pub(crate) fn is_match(&self, haystack: &[u8]) -> Result<bool, Refusal>
+        ensures answered { IfOk result (IsAnswer haystack.now self.now.searches) }
+        ensures err { IfErr result (IsUnreadCause haystack.now self.now.searches) }
     {
-        self.searches.is_match(haystack)
+        Ok(self.searches.reading(haystack)?.is_match())
     }
 
     /// Writes the automaton to the front of `out`, and its length to `size`, which is set even if
@@ -189,7 +179,7 @@ impl Searcher {
         ensures unwritten { OnErr result (out.new ≡ out.old) }
     {
         *size = 0;
-        let form = self.searches.automaton().serialize(alloc)?;
+        let form = self.searches.form(alloc)?;
         *size = form.len();
         copy_to_front(&form, out)
     }
@@ -215,7 +205,7 @@ impl Searcher {
             bytes: bytes.len(),
             patterns: ends.len().min(values.len()),
         };
-        let listing = Listing::new(alloc, self.searches.automaton(), room)?;
+        let listing = Listing::new(alloc, &self.searches, room)?;
         *size = listing.size;
         *count = listing.count;
         if !listing.fits(room) {
@@ -243,7 +233,7 @@ impl Searcher {
         if !texts.are_right() {
             return Err(Refusal::WrongPatterns);
         }
-        *size = self.searches.replace(haystack, texts, out);
+        *size = self.searches.reading(haystack)?.replace(texts, out);
         if out.len() < *size {
             return Err(Refusal::NoRoom);
         }
@@ -257,29 +247,27 @@ impl Searcher {
         ensures unchanged { OnErr result (self.new ≡ self.old) }
     {
         let kind = StreamKind::numbered(number)?;
-        let automaton = self.searches.automaton();
-        if !kind.search().is_for(automaton.match_kind()) {
+        if !kind.search().is_for(self.searches.match_kind()) {
             return Err(Refusal::WrongKind);
         }
-        self.stream = Some(Stream::new(alloc, automaton, kind)?);
+        self.stream = Some(Streams::begin(alloc, &self.searches, kind)?);
         Ok(())
     }
 
     /// Feeds the stream while there is room for its matches, and writes these.
     pub(crate) fn consume(&mut self, bytes: &[u8], out: &mut [CMatch]) -> Result<Done, Refusal>
         ensures consumed { IfOk result (HasConsumed bytes.now self.old self.new out.old out.new) }
-        ensures err { IfErr result (IsIdleCause self.old (length bytes.now) (length out.old)) }
+        ensures err { IfErr result (IsIdleCause self.old bytes.now (length out.old)) }
         ensures unchanged { OnErr result ((self.new ≡ self.old) × (out.new ≡ out.old)) }
     {
         let Some(stream) = self.stream.take() else {
             return Err(Refusal::NoStream);
         };
-        let automaton = self.searches.automaton();
-        if let Err(refusal) = stream.admit(automaton, bytes.len(), out.len()) {
+        if let Err(refusal) = stream.admit(&self.searches, bytes, out.len()) {
             self.stream = Some(stream);
             return Err(refusal);
         }
-        let (stream, done) = stream.consume(automaton, bytes, out);
+        let (stream, done) = stream.consume(&self.searches, bytes, out);
         self.stream = Some(stream);
         Ok(done)
     }
@@ -287,12 +275,16 @@ impl Searcher {
     /// Ends the stream: no more bytes come.
     pub(crate) fn end(&mut self) -> Result<(), Refusal>
         ensures ended { OnOk result (HasEnded self.old self.new) }
-        ensures err { IfErr result (IsStreamless self.old) }
+        ensures err { IfErr result (IsUnendedCause self.old) }
         ensures unchanged { OnErr result (self.new ≡ self.old) }
     {
         let Some(stream) = self.stream.take() else {
             return Err(Refusal::NoStream);
         };
+        if let Err(refusal) = stream.may_end() {
+            self.stream = Some(stream);
+            return Err(refusal);
+        }
         self.stream = Some(stream.ended());
         Ok(())
     }

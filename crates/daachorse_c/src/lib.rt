@@ -1,18 +1,16 @@
-//! The C interface: automata over bytes.
+//! The C interface: automata over bytes, and over the characters of UTF-8.
 //!
 //! C keeps a [`Handle`](handle::Handle), empty at first, and passes its address. Each call but
 //! [`daachorse_free`] returns 0, or the number of a [`Refusal`](refusal::Refusal). The header
 //! `bindings/c/daachorse.h` states what C has to keep to.
 #![tactic(auto)]
 
-ghost use Rattle.std.specs.Prelude.{◌≡◌, ◌≢◌, ◌↔◌, [], None, Some, IsNone, IsSomeAnd, IsTrue, MatchResult, false, length, map};
-ghost use Rattle.daachorse_model.specs.Folding.{as_read};
+ghost use Rattle.std.specs.Prelude.{◌≡◌, ◌≢◌, None, Some, IsNone, IsSomeAnd, MatchResult, false, length, map};
 ghost use Rattle.daachorse_model.specs.Kinds.{byte_of_kind};
-ghost use Rattle.daachorse_model.specs.Matches.{overlapping};
-ghost use Rattle.daachorse_model.specs.Units.{byte_width};
-ghost use Rattle.daachorse_bytewise.specs.Automata.{dictionary_of, kind_of};
+ghost use Rattle.daachorse_c.specs.declared.unit.Unit.TheVariants.{Byte};
 ghost use Rattle.daachorse_c.specs.declared.search.SearchKind.TheVariants.{Find, Leftmost, NoSuffix, Overlapping, Prefixes, Whole};
-ghost use Rattle.daachorse_c.specs.Building.{IsBuildCause, IsBuiltFrom};
+ghost use Rattle.daachorse_c.specs.Automata.{folds_of, kind_of};
+ghost use Rattle.daachorse_c.specs.Building.{IsBuildCause, IsBuiltFrom, settings_over_bytes};
 ghost use Rattle.daachorse_c.specs.Characters.{in_characters};
 ghost use Rattle.daachorse_c.specs.Counts.{AreCounts};
 ghost use Rattle.daachorse_c.specs.Listing.{IsListCause, HasListed, arrays};
@@ -20,12 +18,13 @@ ghost use Rattle.daachorse_c.specs.Options.{IsBuiltWithOptions, IsOptionsCause};
 ghost use Rattle.daachorse_c.specs.Places.{IsGoingOn};
 ghost use Rattle.daachorse_c.specs.Refusals.{IsDoneOr, refusal_number};
 ghost use Rattle.daachorse_c.specs.Replacing.{HasReplaced, IsReplaceCause};
-ghost use Rattle.daachorse_c.specs.Searches.{IsSearchOf, IsShareCause, IsUseCause};
+ghost use Rattle.daachorse_c.specs.Searches.{IsAnswer, IsHaystackCause, IsSearchOf, IsShareCause, IsUseCause};
 ghost use Rattle.daachorse_c.specs.Streaming.{HasBegun, HasEnded, IsBeginCause, IsConsumption, IsEndCause};
-ghost use Rattle.daachorse_c.specs.Written.{IsRead, IsReadCause, IsWhole, IsWriteCause, StandsInFront, form_of};
+ghost use Rattle.daachorse_c.specs.Units.{unit_numbered};
+ghost use Rattle.daachorse_c.specs.Written.{IsRead, IsReadCause, IsReadWithCause, IsWhole, IsWriteCause, StandsInFront, form_of};
 
 use crate::automaton::Searcher;
-use crate::building::build;
+use crate::building::{Settings, build};
 use crate::characters::Cursor;
 use crate::counts::Counts;
 use crate::found::CMatch;
@@ -36,12 +35,19 @@ use crate::reading::read;
 use crate::refusal::Refusal;
 use crate::replacing::Texts;
 use crate::search::SearchKind;
+use crate::unit::Unit;
 use std::alloc::Global;
 
 mod automaton;
+mod begun;
 mod building;
+mod byte_streams;
+mod bytewise;
+mod character_streams;
 mod characters;
+mod charwise;
 mod counts;
+mod feeding;
 mod found;
 mod going_on;
 mod handle;
@@ -56,15 +62,19 @@ mod replacing;
 mod room;
 mod search;
 mod searches;
+mod searching;
 mod stepper;
 mod stream;
+mod stream_unit;
+mod streams;
 mod teller;
+mod unit;
 
 /// Returned by a call that is not refused.
 const DONE: u32 = 0;
 
-/// Fills the handle with an automaton of the patterns that end in `bytes` at each of `ends`, and
-/// frees what it held.
+/// Fills the handle with an automaton over bytes, of the patterns that end in `bytes` at each of
+/// `ends`, and frees what it held.
 ///
 /// Each pattern begins where the previous one ends, and has the next of `values`. The kinds are 0
 /// standard, 1 leftmost-longest and 2 leftmost-first. With `ascii_case_insensitive`, A to Z are
@@ -85,34 +95,28 @@ pub extern "C" fn daachorse_build(
     ends: &[usize],
     values: &[u32],
 ) -> u32
-    ensures built { result ≡ 0 → IsSomeAnd handle.new.automaton (λ a. IsBuiltFrom kind ascii_case_insensitive bytes.now ends.now values.now use_prefilter a.searches) }
+    ensures built { result ≡ 0 → IsSomeAnd handle.new.automaton (λ a. IsBuiltFrom (settings_over_bytes kind use_prefilter ascii_case_insensitive) bytes.now ends.now values.now a.searches) }
     ensures stream { result ≡ 0 → IsSomeAnd handle.new.automaton (λ a. a.stream ≡ None) }
-    ensures refused { IsDoneOr (IsBuildCause kind ascii_case_insensitive bytes.now ends.now values.now) result }
+    ensures refused { IsDoneOr (IsBuildCause (settings_over_bytes kind use_prefilter ascii_case_insensitive) bytes.now ends.now values.now) result }
     ensures unchanged { result ≢ 0 → handle.new.automaton ≡ handle.old.automaton }
 {
-    match build(
-        alloc,
+    let settings = Settings {
+        unit: Unit::Byte,
         kind,
         use_prefilter,
         ascii_case_insensitive,
-        bytes,
-        ends,
-        values,
-    ) {
-        Ok(automaton) => {
-            handle.fill(alloc, automaton);
-            DONE
-        }
-        Err(refusal) => refusal.number(),
-    }
+    };
+    put_into(alloc, handle, build(alloc, settings, bytes, ends, values))
 }
 
-/// Does what [`daachorse_build`] does, with its options in a struct.
+/// Does what [`daachorse_build`] does, with its options in a struct. The automaton may be over
+/// characters.
 ///
 /// # Errors
 ///
-/// Those of [`daachorse_build`], and the number of [`Refusal::UnknownOption`] if an option that is
-/// not the kind is neither 0 nor 1, or one without a name is not 0. The handle is then unchanged.
+/// Those of [`daachorse_build`], and the numbers of [`Refusal::UnknownOption`] if an option that is
+/// not the kind is neither 0 nor 1, or one without a name is not 0, and of `InvalidUtf8` if the
+/// automaton is to be over characters and a pattern is no UTF-8. The handle is then unchanged.
 #[unsafe(no_mangle)]
 pub extern "C" fn daachorse_build_with(
     alloc: Global,
@@ -130,16 +134,8 @@ pub extern "C" fn daachorse_build_with(
     if !options.are_known() {
         return Refusal::UnknownOption.number();
     }
-    daachorse_build(
-        alloc,
-        handle,
-        options.kind,
-        options.no_prefilter != 1,
-        options.ascii_case_insensitive == 1,
-        bytes,
-        ends,
-        values,
-    )
+    let settings = options.settings();
+    put_into(alloc, handle, build(alloc, settings, bytes, ends, values))
 }
 
 /// Fills `other` with the automaton of the handle, and frees what it held. No copy is made: the
@@ -207,7 +203,7 @@ pub extern "C" fn daachorse_kind(
 ) -> u32
     ensures kept { handle.new.automaton ≡ handle.old.automaton }
     ensures kind { result ≡ 0 → IsSomeAnd handle.old.automaton (λ a. kind.new ≡ byte_of_kind (kind_of a.searches)) }
-    ensures folds { result ≡ 0 → IsSomeAnd handle.old.automaton (λ a. ascii_case_insensitive.new ≡ a.searches.folds) }
+    ensures folds { result ≡ 0 → IsSomeAnd handle.old.automaton (λ a. ascii_case_insensitive.new ≡ folds_of a.searches) }
     ensures refused { IsDoneOr (IsUseCause handle.old.automaton) result }
     ensures unwritten { result ≢ 0 → (kind.new ≡ kind.old) × (ascii_case_insensitive.new ≡ ascii_case_insensitive.old) }
 {
@@ -281,8 +277,9 @@ pub extern "C" fn daachorse_to_characters(
 ///
 /// # Errors
 ///
-/// The numbers of [`Refusal::EmptyHandle`], and of `WrongKind` if the automaton is not standard.
-/// Nothing is written to `out` then, and 0 to `written`.
+/// The numbers of [`Refusal::EmptyHandle`], of `WrongKind` if the automaton is not standard, and of
+/// `InvalidUtf8` if it is over characters and the haystack is no UTF-8. Nothing is written to `out`
+/// then, and 0 to `written`.
 #[unsafe(no_mangle)]
 pub extern "C" fn daachorse_find(
     alloc: Global,
@@ -352,8 +349,9 @@ pub extern "C" fn daachorse_leftmost_find(
 ///
 /// # Errors
 ///
-/// The numbers of [`Refusal::EmptyHandle`], and of `WrongPlace` if the place is behind the
-/// haystack. Nothing changes then, and `written` is 0.
+/// The numbers of [`Refusal::EmptyHandle`], of `WrongPlace` if the place is behind the haystack,
+/// and for an automaton over characters of `InvalidUtf8` if the haystack is no UTF-8, and of
+/// `WrongPlace` if the place is inside a character. Nothing changes then, and `written` is 0.
 #[unsafe(no_mangle)]
 pub extern "C" fn daachorse_find_on(
     alloc: Global,
@@ -413,7 +411,8 @@ pub extern "C" fn daachorse_common_prefixes(
 ///
 /// # Errors
 ///
-/// The number of [`Refusal::EmptyHandle`]. `found` is false then.
+/// The numbers of [`Refusal::EmptyHandle`], and of `InvalidUtf8` if the automaton is over
+/// characters and the haystack is no UTF-8. `found` is false then.
 #[unsafe(no_mangle)]
 pub extern "C" fn daachorse_is_match(
     alloc: Global,
@@ -422,17 +421,23 @@ pub extern "C" fn daachorse_is_match(
     found: &mut bool,
 ) -> u32
     ensures kept { handle.new.automaton ≡ handle.old.automaton }
-    ensures answered { result ≡ 0 → IsSomeAnd handle.old.automaton (λ a. IsTrue found.new ↔ (overlapping byte_width (dictionary_of a.searches) (as_read a.searches.folds haystack.now) ≢ [])) }
-    ensures refused { IsDoneOr (IsUseCause handle.old.automaton) result }
+    ensures answered { result ≡ 0 → IsSomeAnd handle.old.automaton (λ a. IsAnswer haystack.now a.searches found.new) }
+    ensures refused { IsDoneOr (IsHaystackCause haystack.now handle.old.automaton) result }
     ensures unfound { result ≢ 0 → found.new ≡ false }
 {
     *found = false;
     let Some(automaton) = handle.take(alloc) else {
         return Refusal::EmptyHandle.number();
     };
-    *found = automaton.is_match(haystack);
+    let answer = automaton.is_match(haystack);
     handle.put(automaton);
-    DONE
+    match answer {
+        Ok(occurs) => {
+            *found = occurs;
+            DONE
+        }
+        Err(refusal) => refusal.number(),
+    }
 }
 
 /// Writes the haystack, with its matches replaced, to the front of `out`, as much as there is room
@@ -444,9 +449,10 @@ pub extern "C" fn daachorse_is_match(
 ///
 /// # Errors
 ///
-/// The numbers of [`Refusal::EmptyHandle`], and of `WrongPatterns` if the ends decrease or pass the
-/// bytes. Nothing is written to `out` then, and 0 to `size`. The number of `NoRoom`, with the
-/// length needed in `size`: then `out` has as much as there is room for.
+/// The numbers of [`Refusal::EmptyHandle`], of `WrongPatterns` if the ends decrease or pass the
+/// bytes, and of `InvalidUtf8` if the automaton is over characters and the haystack is no UTF-8.
+/// Nothing is written to `out` then, and 0 to `size`. The number of `NoRoom`, with the length
+/// needed in `size`: then `out` has as much as there is room for.
 #[unsafe(no_mangle)]
 pub extern "C" fn daachorse_replace(
     alloc: Global,
@@ -503,13 +509,15 @@ pub extern "C" fn daachorse_begin(alloc: Global, handle: &mut Handle, search: u3
 /// The number of bytes consumed is written to `taken`, and that of matches to `written`. Unless
 /// `out` is full, all bytes were consumed and every match so far was reported, but of leftmost
 /// matches those that are certain, or all after [`daachorse_end`]. Offsets count from the beginning
-/// of the stream.
+/// of the stream. Over characters a piece may end inside one, and bytes with which none begins are
+/// not consumed, nor those after them.
 ///
 /// # Errors
 ///
 /// The numbers of [`Refusal::EmptyHandle`], `NoStream`, `StreamEnded` if bytes come after the end,
-/// and `StreamTooLong` if an offset or the number of matches would pass 64 bits. Nothing changes
-/// then, and `taken` and `written` are 0.
+/// `StreamTooLong` if an offset or the number of matches would pass 64 bits, and of `InvalidUtf8`
+/// if the automaton is over characters and none begins with the first byte, behind those of one
+/// that has begun. Nothing changes then, and `taken` and `written` are 0.
 #[unsafe(no_mangle)]
 pub extern "C" fn daachorse_consume(
     alloc: Global,
@@ -542,7 +550,8 @@ pub extern "C" fn daachorse_consume(
 ///
 /// # Errors
 ///
-/// The numbers of [`Refusal::EmptyHandle`] and `NoStream`. The handle is then unchanged.
+/// The numbers of [`Refusal::EmptyHandle`] and `NoStream`, and of `InvalidUtf8` if a character has
+/// begun that is not whole. The handle is then unchanged.
 #[unsafe(no_mangle)]
 pub extern "C" fn daachorse_end(alloc: Global, handle: &mut Handle) -> u32
     ensures ended { result ≡ 0 → IsSomeAnd handle.old.automaton (λ a. IsSomeAnd handle.new.automaton (HasEnded a)) }
@@ -630,8 +639,8 @@ pub extern "C" fn daachorse_list(
     }
 }
 
-/// Fills the handle with the automaton that `bytes` begin with, frees what it held, and writes the
-/// automaton's length to `taken`. The bytes may be untrusted.
+/// Fills the handle with the automaton over bytes that `bytes` begin with, frees what it held, and
+/// writes the automaton's length to `taken`. The bytes may be untrusted.
 ///
 /// # Errors
 ///
@@ -644,21 +653,41 @@ pub extern "C" fn daachorse_read(
     bytes: &[u8],
     taken: &mut usize,
 ) -> u32
-    ensures read { result ≡ 0 → IsSomeAnd handle.new.automaton (λ a. IsRead bytes.now a.searches taken.new) }
+    ensures read { result ≡ 0 → IsSomeAnd handle.new.automaton (λ a. IsRead Byte bytes.now a.searches taken.new) }
     ensures stream { result ≡ 0 → IsSomeAnd handle.new.automaton (λ a. a.stream ≡ None) }
-    ensures refused { IsDoneOr (IsReadCause bytes.now) result }
+    ensures refused { IsDoneOr (IsReadCause Byte bytes.now) result }
+    ensures unchanged { result ≢ 0 → handle.new.automaton ≡ handle.old.automaton }
+    ensures untaken { result ≢ 0 → taken.new ≡ 0 }
+{
+    read_into(alloc, handle, Unit::Byte, bytes, taken)
+}
+
+/// Does what [`daachorse_read`] does for an automaton over bytes, if `unit` is 0, or over
+/// characters, if it is 1. The written form does not tell which it is of.
+///
+/// # Errors
+///
+/// Those of [`daachorse_read`], and the number of [`Refusal::UnknownOption`] if the unit is neither
+/// 0 nor 1. The handle is then unchanged, and `taken` is 0.
+#[unsafe(no_mangle)]
+pub extern "C" fn daachorse_read_with(
+    alloc: Global,
+    handle: &mut Handle,
+    unit: u32,
+    bytes: &[u8],
+    taken: &mut usize,
+) -> u32
+    ensures read { result ≡ 0 → IsSomeAnd handle.new.automaton (λ a. IsRead (unit_numbered unit) bytes.now a.searches taken.new) }
+    ensures stream { result ≡ 0 → IsSomeAnd handle.new.automaton (λ a. a.stream ≡ None) }
+    ensures refused { IsDoneOr (IsReadWithCause unit bytes.now) result }
     ensures unchanged { result ≢ 0 → handle.new.automaton ≡ handle.old.automaton }
     ensures untaken { result ≢ 0 → taken.new ≡ 0 }
 {
     *taken = 0;
-    match read(alloc, bytes) {
-        Ok((automaton, count)) => {
-            handle.fill(alloc, automaton);
-            *taken = count;
-            DONE
-        }
-        Err(refusal) => refusal.number(),
+    if unit > 1 {
+        return Refusal::UnknownOption.number();
     }
+    read_into(alloc, handle, Unit::numbered(unit), bytes, taken)
 }
 
 /// Frees what the handle holds, and leaves it empty.
@@ -667,6 +696,26 @@ pub extern "C" fn daachorse_free(alloc: Global, handle: &mut Handle)
     ensures { IsNone handle.new.automaton }
 {
     let _automaton = handle.take(alloc);
+}
+
+/// Fills the handle with the automaton over this unit that the bytes begin with, and writes its
+/// length.
+fn read_into(alloc: Global, handle: &mut Handle, unit: Unit, bytes: &[u8], taken: &mut usize) -> u32
+    ensures read { result ≡ 0 → IsSomeAnd handle.new.automaton (λ a. IsRead unit bytes.now a.searches taken.new) }
+    ensures stream { result ≡ 0 → IsSomeAnd handle.new.automaton (λ a. a.stream ≡ None) }
+    ensures refused { IsDoneOr (IsReadCause unit bytes.now) result }
+    ensures unchanged { result ≢ 0 → handle.new.automaton ≡ handle.old.automaton }
+    ensures untaken { result ≢ 0 → taken.new ≡ 0 }
+{
+    *taken = 0;
+    match read(alloc, unit, bytes) {
+        Ok((automaton, count)) => {
+            handle.fill(alloc, automaton);
+            *taken = count;
+            DONE
+        }
+        Err(refusal) => refusal.number(),
+    }
 }
 
 /// Puts an automaton into the handle, and frees the one that it held, unless the call for it was

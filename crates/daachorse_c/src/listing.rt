@@ -1,11 +1,14 @@
 //! The patterns of an automaton, in the form that a build takes.
 
-ghost use Rattle.std.specs.Prelude.{◌≡◌, ◌+◌, ◌↔◌, IfErr, IfOk, IsTrue, OnOk, length};
-ghost use Rattle.daachorse_c.specs.Listing.{Fits, IsListingWithin, arrays_of, one_more};
+ghost use Rattle.std.specs.Prelude.{◌≡◌, ◌+◌, ◌↔◌, [], IfErr, IfOk, IsTrue, OnOk, length};
+ghost use Rattle.daachorse_c.specs.Automata.{Bytes, Characters};
+ghost use Rattle.daachorse_c.specs.Held.{automaton_of};
+ghost use Rattle.daachorse_c.specs.Listing.{Fits, IsListingWithin, arrays, arrays_of, one_more};
 ghost use Rattle.daachorse_c.specs.declared.refusal.Refusal.TheVariants.{OutOfMemory};
 
 use crate::refusal::Refusal;
-use daachorse::DoubleArrayAhoCorasick;
+use crate::searches::Searches;
+use daachorse::{CharwiseDoubleArrayAhoCorasick, DoubleArrayAhoCorasick};
 use std::alloc::Global;
 
 /// How many bytes and how many patterns there is room for.
@@ -35,24 +38,63 @@ pub struct Listing {
 impl Listing {
     /// Counts the patterns, and lists them in byte order, equal ones in order of registration,
     /// while there is room.
-    pub(crate) fn new(
-        alloc: Global,
-        searches: &DoubleArrayAhoCorasick<u32, Global>,
-        room: Room,
-    ) -> Result<Listing, Refusal>
-        ensures listed { IfOk result (IsListingWithin searches.now room) }
+    pub(crate) fn new(alloc: Global, searches: &Searches, room: Room) -> Result<Listing, Refusal>
+        ensures listed { IfOk result (IsListingWithin (automaton_of searches.now) room) }
         ensures err { IfErr result (λ r. r ≡ OutOfMemory) }
     {
-        let mut listing = Listing {
+        match searches {
+            Searches::Bytes(bytewise) => Listing::of_bytes(alloc, bytewise.automaton(), room),
+            Searches::Characters(charwise) => {
+                Listing::of_characters(alloc, charwise.automaton(), room)
+            }
+        }
+    }
+
+    /// A listing of no patterns.
+    fn empty(alloc: Global) -> Listing
+        ensures size { result.size ≡ 0 }
+        ensures count { result.count ≡ 0 }
+        ensures arrays { arrays_of result ≡ arrays [] [] [] }
+    {
+        Listing {
             bytes: Vec::new(alloc),
             ends: Vec::new(alloc),
             values: Vec::new(alloc),
             size: 0,
             count: 0,
-        };
-        for item in searches.iter(alloc)? {
+        }
+    }
+
+    /// Lists the patterns of an automaton over bytes.
+    fn of_bytes(
+        alloc: Global,
+        automaton: &DoubleArrayAhoCorasick<u32, Global>,
+        room: Room,
+    ) -> Result<Listing, Refusal>
+        ensures listed { IfOk result (IsListingWithin (Bytes automaton.now) room) }
+        ensures err { IfErr result (λ r. r ≡ OutOfMemory) }
+    {
+        let mut listing = Listing::empty(alloc);
+        for item in automaton.iter(alloc)? {
             let (pattern, value) = item?;
             listing.push(&pattern, value, room)?;
+        }
+        Ok(listing)
+    }
+
+    /// Lists the patterns of an automaton over characters.
+    fn of_characters(
+        alloc: Global,
+        automaton: &CharwiseDoubleArrayAhoCorasick<u32, Global>,
+        room: Room,
+    ) -> Result<Listing, Refusal>
+        ensures listed { IfOk result (IsListingWithin (Characters automaton.now) room) }
+        ensures err { IfErr result (λ r. r ≡ OutOfMemory) }
+    {
+        let mut listing = Listing::empty(alloc);
+        for item in automaton.iter(alloc)? {
+            let (pattern, value) = item?;
+            listing.push(pattern.as_str().as_bytes(), value, room)?;
         }
         Ok(listing)
     }

@@ -38,12 +38,14 @@ pub enum Refusal {
     StreamTooLong,
     /// An option is neither 0 nor 1, or one without a name is not 0.
     UnknownOption,
-    /// The place from which a search goes on is behind the haystack.
+    /// The place from which a search goes on is behind the haystack, or inside a character.
     WrongPlace,
     /// No search of a stream has the given number.
     UnknownSearch,
     /// The stream has ended, so it takes no more bytes.
     StreamEnded,
+    /// The automaton is over characters, and the bytes are no UTF-8.
+    InvalidUtf8,
 }
 
 impl Refusal {
@@ -70,6 +72,7 @@ impl Refusal {
             Refusal::WrongPlace => 15,
             Refusal::UnknownSearch => 16,
             Refusal::StreamEnded => 17,
+            Refusal::InvalidUtf8 => 18,
         }
     }
 }

@@ -1,13 +1,13 @@
 //! Haystacks with their matches replaced, in room that C owns.
 
 ghost use Rattle.std.specs.Prelude.{◌≡◌, ◌↔◌, ◌++◌, ℕ, List, IsTrue, length};
-ghost use Rattle.daachorse_c.specs.Held.{automaton_of};
+ghost use Rattle.daachorse_c.specs.Held.{haystack_of, searched};
 ghost use Rattle.daachorse_c.specs.Patterns.{AreEnds};
 ghost use Rattle.daachorse_c.specs.Replacing.{IsCut, instead_of, replaced_by};
 
 use crate::place::Place;
 use crate::room::put_in_front;
-use crate::searches::Searches;
+use crate::searching::Search;
 
 /// Joined texts, and where each ends.
 #[derive(Clone, Copy)]
@@ -49,13 +49,14 @@ impl<'a> Texts<'a> {
     }
 }
 
-impl Searches {
+impl<'a> Search<'a> {
     /// Writes as much of the haystack with its matches replaced as there is room for, and returns
     /// the length of the whole, or `usize::MAX` if it is longer.
-    pub(crate) fn replace(&self, haystack: &[u8], texts: Texts<'_>, out: &mut [u8]) -> usize
+    pub(crate) fn replace(&self, texts: Texts<'_>, out: &mut [u8]) -> usize
         requires { AreEnds 0 (length texts.bytes.now) texts.ends.now }
-        ensures { IsCut (replaced_by texts.entry.bytes.now texts.entry.ends.now haystack.now (automaton_of self.now)) out.old out.new result }
+        ensures { IsCut (replaced_by texts.entry.bytes.now texts.entry.ends.now (haystack_of self.now) (searched self.now)) out.old out.new result }
     {
+        let haystack = self.bytes();
         let mut place = Place {
             at: 0,
             after: false,
@@ -63,7 +64,7 @@ impl Searches {
         };
         let mut behind = 0;
         let mut size = 0;
-        while let Some(found) = self.next_match(haystack, &mut place) {
+        while let Some(found) = self.next_match(&mut place) {
             size = put(&haystack[behind..found.start], size, out);
             let matched = &haystack[found.start..found.end];
             size = put(texts.instead_of(found.value, matched), size, out);

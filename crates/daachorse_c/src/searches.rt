@@ -1,120 +1,100 @@
-//! An automaton, alone or with rows of the states near its root.
+//! The automaton that handles share, over bytes or over characters.
 
-ghost use Rattle.std.specs.Prelude.{◌≡◌, ◌≢◌, ◌↔◌, [], IfErr, IfOk, IsTrue};
-ghost use Rattle.daachorse_model.specs.Folding.{as_read};
-ghost use Rattle.daachorse_model.specs.Matches.{overlapping};
-ghost use Rattle.daachorse_model.specs.Units.{byte_width};
-ghost use Rattle.daachorse_bytewise.specs.Automata.{dictionary_of, kind_of};
-ghost use Rattle.daachorse_c.specs.declared.refusal.Refusal.TheVariants.{OutOfMemory};
-ghost use Rattle.daachorse_c.specs.declared.search.SearchKind.TheVariants.{Whole};
-ghost use Rattle.daachorse_c.specs.Held.{automaton_of};
-ghost use Rattle.daachorse_c.specs.Searches.{ServesKind, found_by};
-ghost use Rattle.daachorse_c.specs.Writes.{Writes};
+ghost use Rattle.std.specs.Prelude.{◌≡◌, IfErr, IfOk};
+ghost use Rattle.daachorse_c.specs.declared.refusal.Refusal.TheVariants.{InvalidUtf8, OutOfMemory};
+ghost use Rattle.daachorse_c.specs.Automata.{Reads, folds_of, kind_of};
+ghost use Rattle.daachorse_c.specs.Counts.{AreCounts};
+ghost use Rattle.daachorse_c.specs.Held.{automaton_of, haystack_of, searched};
+ghost use Rattle.daachorse_c.specs.Written.{IsWhole, form_of};
 
-use crate::found::{CMatch, fill};
+use crate::bytewise::Bytewise;
+use crate::charwise::Charwise;
+use crate::counts::{Counts, counts_of_bytes, counts_of_characters};
 use crate::refusal::Refusal;
-use crate::search::SearchKind;
-use daachorse::bytewise::{AccelerateError, Accelerated};
-use daachorse::{DoubleArrayAhoCorasick, Match};
+use crate::searching::Search;
+use daachorse::MatchKind;
 use std::alloc::Global;
 
-/// What searches a haystack.
+/// What searches haystacks.
 #[derive(Drop)]
 pub enum Searches {
-    /// The automaton.
-    Plain(DoubleArrayAhoCorasick<u32, Global>),
-    /// The automaton with rows, which finds the same faster.
-    Rowed(Accelerated<u32, Global>),
+    /// An automaton over bytes.
+    Bytes(Bytewise),
+    /// An automaton over the characters of UTF-8.
+    Characters(Charwise),
 }
 
 impl Searches {
-    /// Makes rows for the automaton, unless it is too large. Fails only if an allocation fails.
-    pub(crate) fn with_rows(
-        alloc: Global,
-        automaton: DoubleArrayAhoCorasick<u32, Global>,
-    ) -> Result<Searches, Refusal>
-        ensures searches { IfOk result (λ s. automaton_of s ≡ automaton) }
+    /// A copy with rows, unless it is too large. Fails only if an allocation fails.
+    pub(crate) fn accelerated(&self, alloc: Global) -> Result<Searches, Refusal>
+        ensures same { IfOk result (λ s. automaton_of s ≡ automaton_of self.now) }
         ensures err { IfErr result (λ r. r ≡ OutOfMemory) }
     {
-        match automaton.accelerate(alloc) {
-            Ok(rowed) => Ok(Searches::Rowed(rowed)),
-            Err(AccelerateError { automaton, refusal }) => match refusal {
-                None => Ok(Searches::Plain(automaton)),
-                Some(error) => Err(error.into()),
-            },
+        match self {
+            Searches::Bytes(bytewise) => Ok(Searches::Bytes(bytewise.accelerated(alloc)?)),
+            Searches::Characters(charwise) => {
+                Ok(Searches::Characters(charwise.accelerated(alloc)?))
+            }
         }
     }
 
-    /// The automaton alone.
-    pub(crate) fn automaton(&self) -> &DoubleArrayAhoCorasick<u32, Global>
-        ensures { result.now ≡ automaton_of self.now }
+    /// The kind of searches that the automaton is for.
+    pub(crate) fn match_kind(&self) -> MatchKind
+        ensures { result ≡ kind_of (automaton_of self.now) }
     {
         match self {
-            Searches::Plain(automaton) => automaton,
-            Searches::Rowed(rowed) => rowed.automaton(),
+            Searches::Bytes(bytewise) => bytewise.automaton().match_kind(),
+            Searches::Characters(charwise) => charwise.automaton().match_kind(),
         }
     }
 
-    /// Writes the first matches of a search that serves the automaton's kind.
-    pub(crate) fn find(&self, search: SearchKind, haystack: &[u8], out: &mut [CMatch]) -> usize
-        requires { ServesKind search (kind_of (automaton_of self.now)) }
-        ensures { Writes (found_by search (dictionary_of (automaton_of self.now)) (as_read (automaton_of self.now).folds haystack.now)) out.old out.new result }
-    {
-        match search {
-            SearchKind::Find => match self {
-                Searches::Plain(plain) => fill(plain.find_iter(haystack), out),
-                Searches::Rowed(rowed) => fill(rowed.find_iter(haystack), out),
-            },
-            SearchKind::Overlapping => match self {
-                Searches::Plain(plain) => fill(plain.find_overlapping_iter(haystack), out),
-                Searches::Rowed(rowed) => fill(rowed.find_overlapping_iter(haystack), out),
-            },
-            SearchKind::NoSuffix => match self {
-                Searches::Plain(plain) => fill(
-                    plain.find_overlapping_no_suffix_iter(haystack),
-                    out,
-                ),
-                Searches::Rowed(rowed) => fill(
-                    rowed.find_overlapping_no_suffix_iter(haystack),
-                    out,
-                ),
-            },
-            SearchKind::Leftmost => match self {
-                Searches::Plain(plain) => fill(plain.leftmost_find_iter(haystack), out),
-                Searches::Rowed(rowed) => fill(rowed.leftmost_find_iter(haystack), out),
-            },
-            SearchKind::Whole => find_whole(self.automaton(), haystack, out),
-            SearchKind::Prefixes => fill(self.automaton().common_prefixes(haystack), out),
-        }
-    }
-
-    /// Returns whether some pattern occurs.
-    pub(crate) fn is_match(&self, haystack: &[u8]) -> bool
-        ensures { IsTrue result ↔ (overlapping byte_width (dictionary_of (automaton_of self.now)) (as_read (automaton_of self.now).folds haystack.now) ≢ []) }
+    /// Whether searches ignore the case of ASCII letters.
+    pub(crate) fn is_ascii_case_insensitive(&self) -> bool
+        ensures { result ≡ folds_of (automaton_of self.now) }
     {
         match self {
-            Searches::Plain(automaton) => automaton.is_match(haystack),
-            Searches::Rowed(rowed) => rowed.is_match(haystack),
+            Searches::Bytes(bytewise) => bytewise.automaton().is_ascii_case_insensitive(),
+            Searches::Characters(charwise) => charwise.automaton().is_ascii_case_insensitive(),
         }
     }
-}
 
-/// Writes the patterns that are the whole text.
-fn find_whole(
-    automaton: &DoubleArrayAhoCorasick<u32, Global>,
-    text: &[u8],
-    out: &mut [CMatch],
-) -> usize
-    ensures { Writes (found_by Whole (dictionary_of automaton.now) (as_read automaton.now.folds text.now)) out.old out.new result }
-{
-    let end = text.len();
-    let values = automaton.get(text);
-    fill(
-        values.map(|value| Match {
-            start: 0,
-            end,
-            value,
-        }),
-        out,
-    )
+    /// Counts what the automaton holds. Fails only if an allocation fails.
+    pub(crate) fn counts(&self, alloc: Global) -> Result<Counts, Refusal>
+        ensures counts { IfOk result (AreCounts (automaton_of self.now)) }
+        ensures err { IfErr result (λ r. r ≡ OutOfMemory) }
+    {
+        match self {
+            Searches::Bytes(bytewise) => counts_of_bytes(alloc, bytewise.automaton()),
+            Searches::Characters(charwise) => counts_of_characters(alloc, charwise.automaton()),
+        }
+    }
+
+    /// The written form of the automaton. Fails only if an allocation fails.
+    pub(crate) fn form(&self, alloc: Global) -> Result<Vec<u8, Global>, Refusal>
+        ensures whole { IfOk result (λ _. IsWhole (automaton_of self.now)) }
+        ensures form { IfOk result (λ v. v.items ≡ form_of (automaton_of self.now)) }
+        ensures err { IfErr result (λ r. r ≡ OutOfMemory) }
+    {
+        match self {
+            Searches::Bytes(bytewise) => Ok(bytewise.automaton().serialize(alloc)?),
+            Searches::Characters(charwise) => Ok(charwise.automaton().serialize(alloc)?),
+        }
+    }
+
+    /// The automaton beside a haystack. Fails if it is over characters, and the haystack is no
+    /// UTF-8.
+    pub(crate) fn reading<'a>(&'a self, haystack: &'a [u8]) -> Result<Search<'a>, Refusal>
+        ensures automaton { IfOk result (λ s. searched s ≡ automaton_of self.entry.now) }
+        ensures haystack { IfOk result (λ s. haystack_of s ≡ haystack.entry.now) }
+        ensures text { IfOk result (λ _. Reads (automaton_of self.entry.now) haystack.entry.now) }
+        ensures err { IfErr result (λ r. (r ≡ InvalidUtf8) × ¬ Reads (automaton_of self.entry.now) haystack.entry.now) }
+    {
+        match self {
+            Searches::Bytes(bytewise) => Ok(Search::Bytes(bytewise, haystack)),
+            Searches::Characters(charwise) => match str::from_utf8(haystack) {
+                Ok(text) => Ok(Search::Characters(charwise, text)),
+                Err(_) => Err(Refusal::InvalidUtf8),
+            },
+        }
+    }
 }

@@ -1,140 +1,105 @@
 //! The searches of a stream as one type.
 
-ghost use Rattle.std.specs.Prelude.{◌≡◌, ◌<◌, ◌^◌, ◌+◌, [], ◌∷◌, ◌++◌, Bool, List, ℕ, cond, drop, false, length, option_to_list, IfErr, IfOk};
+ghost use Rattle.std.specs.Prelude.{◌≡◌, ◌<◌, ◌≤◌, ◌^◌, ◌+◌, [], ◌∷◌, ◌++◌, Bool, List, ℕ, cond, drop, false, length, option_to_list};
 ghost use Rattle.daachorse_model.specs.declared.Match.{Match as ModelMatch};
 ghost use Rattle.daachorse_model.specs.Folding.{as_read};
-ghost use Rattle.daachorse_model.specs.Units.{byte_width};
+ghost use Rattle.daachorse_model.specs.Units.{size};
+ghost use Rattle.daachorse_core.specs.Seen.{units};
+ghost use Rattle.daachorse_search.specs.Standings.{IsFindStanding};
+ghost use Rattle.daachorse_search.specs.Views.{IsStandard};
 ghost use Rattle.daachorse_streams.specs.Streamed.{IsSameStream, IsSettled};
-ghost use Rattle.daachorse_bytewise.specs.Automata.{kind_of, states_of};
-ghost use Rattle.daachorse_bytewise_states.specs.Parts.{Parts, content};
-ghost use Rattle.daachorse_c.specs.declared.refusal.Refusal.TheVariants.{OutOfMemory};
-ghost use Rattle.daachorse_c.specs.declared.search.StreamKind.TheVariants.{Leftmost};
-ghost use Rattle.daachorse_c.specs.declared.stepper.Stepper.TheVariants.{Leftmost as FindingLeftmost};
-ghost use Rattle.daachorse_c.specs.Searches.{ServesKind, search_of};
-ghost use Rattle.daachorse_c.specs.Streams.{AreMarksFor, BeginsStepping, HasGiven, HasTold, HasToldBy, IsOpen, IsQuiet, KnowsEnd, StandsIn, TellsMore, folds_in, kind_by, kind_in, read_by, read_in, states_in};
+ghost use Rattle.daachorse_c.specs.Streams.{HasGiven, HasTold, HasToldBy, IsOver, IsPlaced, IsQuiet, IsUnended, KnowsEnd, StandsIn, TellsMore, dictionary_in, folds_in, kind_by, kind_in, read_by, read_in};
 ghost use Rattle.daachorse_c.specs.Writes.{Writes};
 
 use crate::found::CMatch;
-use crate::refusal::Refusal;
-use crate::search::StreamKind;
+use crate::stream_unit::StreamUnit;
 use crate::teller::{Teller, TellerStanding};
-use daachorse::bytewise::iter::{FindStepper, LeftmostStream};
-use daachorse::bytewise::states::Standard;
-use daachorse::{DoubleArrayAhoCorasick, LeftmostStanding, Match, StreamMarks};
-use daachorse_search::find_stepper::FindStanding;
+use daachorse::{LeftmostStanding, Match};
+use daachorse_core::edge_label::EdgeLabel;
+use daachorse_search::automaton::Automaton;
+use daachorse_search::find::FindWalk;
+use daachorse_search::find_stepper::{FindStanding, FindStepper};
+use daachorse_streams::leftmost_stream::LeftmostStream;
 use std::alloc::Global;
 
-/// A search that is fed one byte at a time, and tells what it finds as there is room.
+/// A search that is fed one unit at a time, and tells what it finds as there is room: by the states
+/// `S` for standard searches, or `L` for leftmost ones.
 #[derive(Drop)]
-pub enum Stepper<'a> {
+pub enum Stepper<'a, S: Automaton<u32>, L: Automaton<u32>> {
     /// For matches that do not overlap.
-    Find(Finder<'a>),
+    Find(Finder<'a, S>),
     /// For all matches, or for the longest at each end.
-    Overlapping(Teller<Standard<'a, u32>>),
+    Overlapping(Teller<S>),
     /// For leftmost matches.
-    Leftmost(LeftmostStream<'a, u32>),
+    Leftmost(LeftmostStream<'a, u32, L, Global>),
 }
 
 /// A search for matches that do not overlap.
 #[derive(Drop)]
-pub struct Finder<'a> {
+pub struct Finder<'a, S: Automaton<u32>> {
     /// The stepper of the library.
-    pub stepper: FindStepper<'a, u32>,
+    pub stepper: FindStepper<'a, u32, S>,
     /// Whether the match that ends here was told.
     pub told: bool,
 }
 
+impl<'a, S: Automaton<u32>> Finder<'a, S>
+where
+    S::Unit: StreamUnit,
+{
+    /// A search that has consumed and told nothing.
+    pub(crate) fn new(states: S, folds: bool) -> Self
+        requires { IsStandard (S.sees states) }
+        ensures automaton { result.stepper.automaton ≡ states }
+        ensures folds { result.stepper.folds ≡ folds }
+        ensures read { result.stepper.read ≡ [] }
+        ensures untold { result.told ≡ false }
+    {
+        let walk = FindWalk::new(states);
+        Finder {
+            stepper: FindStepper::new(walk, &[], folds),
+            told: false,
+        }
+    }
+
+    /// Resumes a search that stood so over the same states, where the match that ends there was
+    /// told or not.
+    pub(crate) fn resume(states: S, standing: FindStanding, told: bool, folds: bool) -> Self
+        requires { IsFindStanding S.Unit.width S.sees states standing }
+        ensures automaton { result.stepper.automaton ≡ states }
+        ensures folds { result.stepper.folds ≡ folds }
+        ensures read { result.stepper.read ≡ units standing.walk.seen }
+        ensures told { result.told ≡ told }
+    {
+        Finder {
+            stepper: FindStepper::resume(states, &[], standing, folds),
+            told,
+        }
+    }
+}
+
 /// A stepper saved without its automaton.
 #[derive(Drop)]
-pub enum Standing {
+pub enum Standing<U: EdgeLabel> {
     /// Of a search for matches that do not overlap, and whether the one that ends there was told.
     Find(FindStanding, bool),
     /// Of a search for all matches, or for the longest at each end.
     Overlapping(TellerStanding),
     /// Of a search for leftmost matches.
-    Leftmost(LeftmostStanding<u8, Global>),
+    Leftmost(LeftmostStanding<U, Global>),
 }
 
-impl<'a> Stepper<'a> {
-    /// A fresh stepper of this search. Fails only if an allocation fails, which a leftmost search
-    /// makes.
-    #[tactic(auto, using(daachorse_bytewise_states::proofs::DeadLaws::alive))]
-    pub(crate) fn new(
-        alloc: Global,
-        searches: &'a DoubleArrayAhoCorasick<u32, Global>,
-        marks: &'a StreamMarks<Global>,
-        kind: StreamKind,
-    ) -> Result<Stepper<'a>, Refusal>
-        requires serves { ServesKind (search_of kind) (kind_of searches.now) }
-        requires marks { AreMarksFor kind (states_of searches.now) marks.now }
-        ensures ok { IfOk result (BeginsStepping searches.entry.now kind) }
-        ensures err { IfErr result (λ r. (r ≡ OutOfMemory) × (kind ≡ Leftmost)) }
-    {
-        let folds = searches.is_ascii_case_insensitive();
-        match kind {
-            StreamKind::Find => Ok(Stepper::Find(Finder {
-                stepper: searches.find_stepper(),
-                told: false,
-            })),
-            StreamKind::Overlapping => Ok(Stepper::Overlapping(Teller::new(
-                searches.standard(),
-                folds,
-                false,
-            ))),
-            StreamKind::NoSuffix => Ok(Stepper::Overlapping(Teller::new(
-                searches.standard(),
-                folds,
-                true,
-            ))),
-            StreamKind::Leftmost => Ok(Stepper::Leftmost(searches.leftmost_stream(alloc, marks)?)),
-        }
-    }
-
-    /// Resumes a stepper that was saved over the same automaton. `ended` says that no more bytes
-    /// come.
-    pub(crate) fn resume(
-        searches: &'a DoubleArrayAhoCorasick<u32, Global>,
-        marks: &'a StreamMarks<Global>,
-        standing: Standing,
-        ended: bool,
-    ) -> Stepper<'a>
-        requires serves { ServesKind (search_of (kind_by standing)) (kind_of searches.now) }
-        requires marks { AreMarksFor (kind_by standing) (states_of searches.now) marks.now }
-        requires stands { StandsIn (states_of searches.now) standing }
-        requires unended { ended ≡ false → IsOpen standing }
-        ensures states { states_in result ≡ states_of searches.entry.now }
-        ensures folds { folds_in result ≡ searches.entry.now.folds }
-        ensures search { kind_in result ≡ kind_by standing }
-        ensures read { read_in result ≡ read_by standing }
-        ensures end { KnowsEnd ended result }
-        ensures told { (told : List (ModelMatch ℕ)) → HasToldBy (states_of searches.entry.now) searches.entry.now.folds standing told → HasTold result told }
-    {
-        match standing {
-            Standing::Find(standing, told) => {
-                let stepper = searches.resume_find_stepper(standing);
-                Stepper::Find(Finder { stepper, told })
-            }
-            Standing::Overlapping(standing) => {
-                let folds = searches.is_ascii_case_insensitive();
-                Stepper::Overlapping(Teller::resume(searches.standard(), standing, folds))
-            }
-            Standing::Leftmost(standing) => {
-                let mut stream = searches.resume_leftmost_stream(marks, standing);
-                if ended {
-                    stream.end();
-                }
-                Stepper::Leftmost(stream)
-            }
-        }
-    }
-
-    /// Saves the stepper for [`Self::resume`].
-    pub(crate) fn into_standing(self) -> Standing
-        ensures stands { StandsIn (states_in self.entry) result }
+impl<'a, S: Automaton<u32>, L: Automaton<u32, Unit = S::Unit>> Stepper<'a, S, L>
+where
+    S::Unit: StreamUnit,
+{
+    /// Saves the stepper, to be resumed.
+    pub(crate) fn into_standing(self) -> Standing<S::Unit>
+        ensures stands { (a : S) (b : L) → IsOver a b self.entry → StandsIn S.Unit.width S.sees L.sees S.Unit.unit a b result }
         ensures search { kind_by result ≡ kind_in self.entry }
         ensures read { read_by result ≡ read_in self.entry }
-        ensures unended { KnowsEnd false self.entry → IsOpen result }
-        ensures told { (told : List (ModelMatch ℕ)) → HasTold self.entry told → HasToldBy (states_in self.entry) (folds_in self.entry) result told }
+        ensures unended { KnowsEnd false self.entry → IsUnended result }
+        ensures told { (a : S) (b : L) (told : List (ModelMatch ℕ)) → IsOver a b self.entry → HasTold S.Unit.width S.sees L.sees self.entry told → HasToldBy S.Unit.width S.sees L.sees a b (folds_in self.entry) result told }
     {
         match self {
             Stepper::Find(Finder { stepper, told }) => {
@@ -145,38 +110,41 @@ impl<'a> Stepper<'a> {
         }
     }
 
-    /// Consumes one byte, folded if the automaton ignores case.
-    pub(crate) fn consume(&mut self, byte: u8)
-        requires quiet { IsQuiet self.old }
+    /// Consumes one unit, folded if the automaton ignores case.
+    pub(crate) fn consume(&mut self, unit: S::Unit)
+        requires quiet { IsQuiet S.Unit.width S.sees L.sees self.old }
         requires unended { KnowsEnd false self.old }
-        requires fits { length (read_in self.old) + 1 < 2 ^ 64 }
-        ensures states { states_in self.new ≡ states_in self.old }
+        requires fits { size S.Unit.width (read_in self.old) + S.Unit.width (S.Unit.unit unit) < 2 ^ 64 }
+        ensures over { (a : S) (b : L) → IsOver a b self.old → IsOver a b self.new }
         ensures folds { folds_in self.new ≡ folds_in self.old }
         ensures search { kind_in self.new ≡ kind_in self.old }
-        ensures read { read_in self.new ≡ read_in self.old ++ as_read (folds_in self.old) (byte ∷ []) }
+        ensures dictionary { dictionary_in S.Unit.width S.sees L.sees self.new ≡ dictionary_in S.Unit.width S.sees L.sees self.old }
+        ensures read { read_in self.new ≡ read_in self.old ++ as_read (folds_in self.old) (S.Unit.unit unit ∷ []) }
         ensures unended { KnowsEnd false self.new }
-        ensures told { (told : List (ModelMatch ℕ)) → HasTold self.old told → HasTold self.new told }
+        ensures told { (told : List (ModelMatch ℕ)) → HasTold S.Unit.width S.sees L.sees self.old told → HasTold S.Unit.width S.sees L.sees self.new told }
     {
         match self {
             Stepper::Find(finder) => {
-                finder.stepper.consume(byte);
+                finder.stepper.consume(unit);
                 finder.told = false;
             }
-            Stepper::Overlapping(stepper) => stepper.consume(byte),
-            Stepper::Leftmost(stream) => stream.consume(byte),
+            Stepper::Overlapping(stepper) => stepper.consume(unit),
+            Stepper::Leftmost(stream) => stream.consume(unit),
         }
     }
 
     /// Writes the matches that are certain and were not told, as many as there is room for, and
     /// returns their number.
     pub(crate) fn tell(&mut self, out: &mut [CMatch]) -> usize
-        ensures states { states_in self.new ≡ states_in self.old }
+        ensures over { (a : S) (b : L) → IsOver a b self.old → IsOver a b self.new }
         ensures folds { folds_in self.new ≡ folds_in self.old }
         ensures search { kind_in self.new ≡ kind_in self.old }
+        ensures dictionary { dictionary_in S.Unit.width S.sees L.sees self.new ≡ dictionary_in S.Unit.width S.sees L.sees self.old }
         ensures read { read_in self.new ≡ read_in self.old }
         ensures end { (ended : Bool) → KnowsEnd ended self.old → KnowsEnd ended self.new }
-        ensures told { (told : List (ModelMatch ℕ)) → HasTold self.old told → TellsMore told self.new out.old out.new result }
-        ensures quiet { result < length out.old → IsQuiet self.new }
+        ensures told { (told : List (ModelMatch ℕ)) → HasTold S.Unit.width S.sees L.sees self.old told → TellsMore (HasTold S.Unit.width S.sees L.sees self.new) told out.old out.new result }
+        ensures quiet { result < length out.old → IsQuiet S.Unit.width S.sees L.sees self.new }
+        ensures room { result ≤ length out.old }
     {
         match self {
             Stepper::Find(finder) => { tell_one(finder.stepper.matches(), &mut finder.told, out) }
@@ -205,10 +173,14 @@ fn tell_one(found: Option<Match<u32>>, told: &mut bool, out: &mut [CMatch]) -> u
 }
 
 /// Writes the matches that are certain, as many as there is room for.
-fn tell_certain(stream: &mut LeftmostStream<'_, u32>, out: &mut [CMatch]) -> usize
+fn tell_certain<L: Automaton<u32>>(
+    stream: &mut LeftmostStream<'_, u32, L, Global>,
+    out: &mut [CMatch],
+) -> usize
     ensures same { IsSameStream stream.old stream.new }
-    ensures told { (told : List (ModelMatch ℕ)) → HasGiven stream.old told → TellsMore told (FindingLeftmost stream.new) out.old out.new result }
-    ensures settled { result < length out.old → IsSettled byte_width (content stream.new.automaton) stream.new stream.new }
+    ensures told { (told : List (ModelMatch ℕ)) → HasGiven L.Unit.width L.sees stream.old told → TellsMore (HasGiven L.Unit.width L.sees stream.new) told out.old out.new result }
+    ensures room { result ≤ length out.old }
+    ensures settled { result < length out.old → IsSettled L.Unit.width (L.sees stream.new.automaton).content stream.new stream.new }
 {
     let mut written = 0;
     while written < out.len() {
@@ -221,11 +193,11 @@ fn tell_certain(stream: &mut LeftmostStream<'_, u32>, out: &mut [CMatch]) -> usi
     written
 }
 
-impl Standing {
+impl<U: EdgeLabel> Standing<U> {
     /// The number of bytes consumed.
     pub(crate) fn place(&self) -> usize
-        requires { (p : Parts ℕ) × StandsIn p self.now }
-        ensures { result ≡ length (read_by self.now) }
+        requires { IsPlaced U.width self.now }
+        ensures { result ≡ size U.width (read_by self.now) }
     {
         match self {
             Standing::Find(standing, _told) => standing.place(),

@@ -1,25 +1,27 @@
 //! A stream: a haystack that comes in pieces.
 
-ghost use Rattle.std.specs.Prelude.{◌≡◌, ◌+◌, ◌<◌, ◌^◌, true, IfErr, IfOk, OnOk, length};
-ghost use Rattle.daachorse_bytewise.specs.Automata.{kind_of, states_of};
-ghost use Rattle.daachorse_c.specs.declared.refusal.Refusal.TheVariants.{OutOfMemory};
-ghost use Rattle.daachorse_c.specs.declared.search.StreamKind.TheVariants.{Leftmost};
-ghost use Rattle.daachorse_c.specs.Searches.{ServesKind, search_of};
-ghost use Rattle.daachorse_c.specs.Streaming.{IsNotAdmitted};
-ghost use Rattle.daachorse_c.specs.Streams.{AreMarksFor, GoesOnIn, IsAtBeginning, Tells, read_by};
+ghost use Rattle.std.specs.Prelude.{◌≡◌, ◌≢◌, ◌+◌, ◌<◌, ◌^◌, [], true, false, IfErr, OnOk, length};
+ghost use Rattle.daachorse_model.specs.Units.{size};
+ghost use Rattle.daachorse_c.specs.declared.refusal.Refusal.TheVariants.{InvalidUtf8};
+ghost use Rattle.daachorse_c.specs.Admitting.{IsNotAdmitted};
+ghost use Rattle.daachorse_c.specs.Streams.{IsPlaced, read_by};
+ghost use Rattle.daachorse_c.specs.Units.{IsOpenIn};
 
-use crate::found::CMatch;
+use crate::begun::Begun;
 use crate::refusal::Refusal;
-use crate::search::StreamKind;
-use crate::stepper::{Standing, Stepper};
-use daachorse::{DoubleArrayAhoCorasick, StreamMarks};
+use crate::stepper::Standing;
+use crate::stream_unit::{Pushed, StreamUnit};
+use daachorse::StreamMarks;
+use daachorse_core::edge_label::EdgeLabel;
 use std::alloc::Global;
 
-/// A search in a stream, saved between calls without its automaton.
+/// A search in a stream of units `U`, saved between calls without its automaton.
 #[derive(Drop)]
-pub struct Stream {
+pub struct Stream<U: EdgeLabel> {
     /// The saved stepper.
-    pub standing: Standing,
+    pub standing: Standing<U>,
+    /// The bytes of a unit that has begun.
+    pub begun: Begun,
     /// What a leftmost search knows of the automaton. Empty for other searches.
     pub marks: StreamMarks<Global>,
     /// How many matches were reported in all.
@@ -28,128 +30,56 @@ pub struct Stream {
     pub ended: bool,
 }
 
-/// What a call did.
-#[derive(Clone, Copy)]
-pub struct Done {
-    /// The number of bytes consumed.
-    pub taken: usize,
-    /// The number of matches written.
-    pub written: usize,
-}
-
-impl Stream {
-    /// A fresh stream of this search. Fails only if an allocation fails, which a leftmost search
-    /// makes.
-    pub(crate) fn new(
-        alloc: Global,
-        searches: &DoubleArrayAhoCorasick<u32, Global>,
-        kind: StreamKind,
-    ) -> Result<Stream, Refusal>
-        requires { ServesKind (search_of kind) (kind_of searches.now) }
-        ensures goes_on { IfOk result (GoesOnIn searches.now) }
-        ensures begins { IfOk result (IsAtBeginning kind) }
-        ensures err { IfErr result (λ r. (r ≡ OutOfMemory) × (kind ≡ Leftmost)) }
-    {
-        let marks = marks_for(alloc, searches, kind)?;
-        let stepper = Stepper::new(alloc, searches, &marks, kind)?;
-        Ok(Stream {
-            standing: stepper.into_standing(),
-            marks,
-            told: 0,
-            ended: false,
-        })
-    }
-
-    /// Fails if bytes would come after the end, or if the offset or match count would not fit a
-    /// `usize` after so many more bytes and matches.
-    pub(crate) fn admit(
-        &self,
-        searches: &DoubleArrayAhoCorasick<u32, Global>,
-        bytes: usize,
-        room: usize,
-    ) -> Result<(), Refusal>
-        requires { GoesOnIn searches.now self.now }
-        ensures unended { OnOk result (self.now.ended ≡ true → bytes ≡ 0) }
-        ensures bytes { OnOk result (length (read_by self.now.standing) + bytes < 2 ^ 64) }
+impl<U: StreamUnit> Stream<U> {
+    /// Fails if bytes would come after the end, if no unit begins with the first of them, or if the
+    /// offset or match count would not fit a `usize` after so many more bytes and matches.
+    pub(crate) fn admit(&self, bytes: &[u8], room: usize) -> Result<(), Refusal>
+        requires place { IsPlaced U.EdgeLabel.width self.now.standing }
+        requires begun { IsOpenIn U.which self.now.begun }
+        ensures unended { OnOk result (self.now.ended ≡ true → length bytes.now ≡ 0) }
+        ensures bytes { OnOk result (size U.EdgeLabel.width (read_by self.now.standing) + length self.now.begun + length bytes.now < 2 ^ 64) }
         ensures room { OnOk result (self.now.told + room < 2 ^ 64) }
-        ensures err { IfErr result (IsNotAdmitted self.now bytes room) }
+        ensures err { IfErr result (IsNotAdmitted U.which U.EdgeLabel.width self.now bytes.now room) }
     {
-        let _ = searches;
-        if self.ended && bytes > 0 {
-            return Err(Refusal::StreamEnded);
-        }
-        if bytes > usize::MAX - self.standing.place() || room > usize::MAX - self.told {
+        let left = usize::MAX - self.standing.place();
+        let begun = self.begun.as_slice().len();
+        if begun > left || bytes.len() > left - begun || room > usize::MAX - self.told {
             return Err(Refusal::StreamTooLong);
         }
-        Ok(())
+        if bytes.is_empty() {
+            return Ok(());
+        }
+        if self.ended {
+            return Err(Refusal::StreamEnded);
+        }
+        match U::push(&self.begun, bytes[0]) {
+            Pushed::Wrong => Err(Refusal::InvalidUtf8),
+            Pushed::Whole(_) | Pushed::Open(_) => Ok(()),
+        }
+    }
+
+    /// Fails if a character has begun that is not whole, so that the stream may not end there.
+    pub(crate) fn may_end(&self) -> Result<(), Refusal>
+        ensures ok { OnOk result (self.now.begun ≡ []) }
+        ensures err { IfErr result (λ r. (r ≡ InvalidUtf8) × (self.now.begun ≢ [])) }
+    {
+        if self.begun.is_empty() {
+            Ok(())
+        } else {
+            Err(Refusal::InvalidUtf8)
+        }
     }
 
     /// The stream, of which no more bytes come.
-    pub(crate) fn ended(self) -> Stream
+    pub(crate) fn ended(self) -> Stream<U>
         ensures { result ≡ record self { ended = true } }
     {
         Stream {
             standing: self.standing,
+            begun: self.begun,
             marks: self.marks,
             told: self.told,
             ended: true,
         }
-    }
-
-    /// Consumes bytes while there is room for matches, and writes these.
-    pub(crate) fn consume(
-        self,
-        searches: &DoubleArrayAhoCorasick<u32, Global>,
-        bytes: &[u8],
-        out: &mut [CMatch],
-    ) -> (Stream, Done)
-        requires goes_on { GoesOnIn searches.now self }
-        requires unended { self.ended ≡ true → length bytes.now ≡ 0 }
-        requires bytes { length (read_by self.standing) + length bytes.now < 2 ^ 64 }
-        requires room { self.told + length out.old < 2 ^ 64 }
-        ensures goes_on { GoesOnIn searches.now result.0 }
-        ensures tells { Tells searches.now bytes.now self result.0 out.old out.new result.1 }
-    {
-        let Stream {
-            standing,
-            marks,
-            told,
-            ended,
-        } = self;
-        let mut stepper = Stepper::resume(searches, &marks, standing, ended);
-        let mut taken = 0;
-        let mut written = stepper.tell(out);
-        while written < out.len() && taken < bytes.len() {
-            stepper.consume(bytes[taken]);
-            taken += 1;
-            let more = stepper.tell(&mut out[written..]);
-            written += more;
-        }
-        let stream = Stream {
-            standing: stepper.into_standing(),
-            marks,
-            told: told + written,
-            ended,
-        };
-        (stream, Done { taken, written })
-    }
-}
-
-/// What a stream of this search has to know of the automaton. Fails only if an allocation fails,
-/// which a leftmost search makes.
-fn marks_for(
-    alloc: Global,
-    searches: &DoubleArrayAhoCorasick<u32, Global>,
-    kind: StreamKind,
-) -> Result<StreamMarks<Global>, Refusal>
-    ensures ok { IfOk result (AreMarksFor kind (states_of searches.now)) }
-    ensures err { IfErr result (λ r. (r ≡ OutOfMemory) × (kind ≡ Leftmost)) }
-{
-    match kind {
-        StreamKind::Find | StreamKind::Overlapping | StreamKind::NoSuffix => Ok(StreamMarks {
-            children: Vec::new(alloc),
-            longest: 0,
-        }),
-        StreamKind::Leftmost => Ok(searches.stream_marks(alloc)?),
     }
 }

@@ -1,27 +1,23 @@
 -- What is built of the patterns that were read is built of the registrations that they are.
-use Rattle.std.proofs.Common.{◌≡◌, ℕ, List, map, sym, ap, ◌∙◌, subst}
+use Rattle.std.proofs.Common.{◌≡◌, ℕ, List, sym, ap, ◌∙◌, subst}
 use Rattle.std.proofs.lemmas.Result.{IfOk-weaker}
-use Rattle.std.proofs.lemmas.Simd.{map-map}
-use Rattle.std.specs.Borrow.{Bor}
 use Rattle.daachorse_model.specs.Dictionary.{registrations_of}
-use Rattle.daachorse_model.specs.Folding.{all_as_read}
-use Rattle.daachorse_bytewise.specs.Building.{IsBuiltWith, kept_filter}
-use Rattle.daachorse_c.specs.Building.{IsBuiltFrom}
-use Rattle.daachorse_c.specs.Patterns.{registrations}
+use Rattle.daachorse_c.specs.Building.{IsBuiltFrom, IsBuiltOf}
+use Rattle.daachorse_c.specs.Held.{automaton_of}
+use Rattle.daachorse_c.specs.Patterns.{AreTexts, registrations, texts_in}
 use Rattle.daachorse_c.proofs.building.build.Goals as goal
 
 pub returns-clause-built : goal.returns-clause-built
 returns-clause-built c =
-    let s = c.in_ok-searches.searches in let patterns = c.deref.result.now in let folds = c.args.ascii_case_insensitive in
-    let rs = registrations c.args.bytes.now 0 c.args.ends.now c.args.values.now in
-    let all : registrations_of patterns ≡ rs = ap registrations_of c.deref.ensures.value ∙ c.in_ok-patterns.ensures.all in
-    let texts : map (λ (p : Bor (List ℕ) × ℕ). p.0.now) patterns ≡ map (λ (r : List ℕ × ℕ). r.0) rs =
-    sym (map-map (λ (r : List ℕ × ℕ). r.0) (λ (p : Bor (List ℕ) × ℕ). (p.0.now, p.1)) patterns) ∙ ap (map (λ (r : List ℕ × ℕ). r.0)) all in
-    let built : IsBuiltFrom c.args.kind folds c.args.bytes.now c.args.ends.now c.args.values.now c.args.use_prefilter s = record {
-      its_kind = c.in_ok-kind.kind;
+    let s = c.args.settings in let bytes = c.args.bytes.now in let ends = c.args.ends.now in let values = c.args.values.now in
+    let k = c.in_ok-kind.kind in let a = automaton_of c.in_ok-searches.searches in
+    let all : registrations_of c.deref.result.now ≡ registrations bytes 0 ends values = ap registrations_of c.deref.ensures.value ∙ c.in_ok-patterns.ensures.all in
+    let built : IsBuiltFrom s bytes ends values a = record {
+      unit = c.in_ok-searches.ensures.unit;
+      its_kind = k;
       kind = c.in_ok-kind.ensures;
       right = c.in_ok-patterns.ensures.right;
-      built = subst (λ (l : List (List ℕ × ℕ)). IsBuiltWith c.in_ok-kind.kind folds l s) all c.in_ok-searches.ensures.built;
-      filter = c.in_ok-searches.ensures.filter ∙ ap (λ (l : List (List ℕ)). kept_filter c.args.use_prefilter (all_as_read folds l)) texts;
+      texts = subst (AreTexts s.unit) all c.in_ok-searches.ensures.texts;
+      built = subst (λ (rs : List (List ℕ × ℕ)). IsBuiltOf k s.ascii_case_insensitive s.use_prefilter (texts_in s.unit rs) a) all c.in_ok-searches.ensures.built;
     } in
-    IfOk-weaker c.new.result _ _ (λ b e. subst (IsBuiltFrom c.args.kind folds c.args.bytes.now c.args.ends.now c.args.values.now c.args.use_prefilter) (sym e) built) c.new.ensures.searches
+    IfOk-weaker c.new.result _ _ (λ b e. subst (IsBuiltFrom s bytes ends values) (sym e) built) c.new.ensures.searches

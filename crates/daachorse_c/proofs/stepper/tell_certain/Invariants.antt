@@ -1,17 +1,17 @@
 -- What was given was written.
-use Rattle.std.proofs.Common.{◌≡◌, ℕ, ◌-◌, List, length}
+use Rattle.std.proofs.Common.{◌≡◌, ℕ, ◌-◌, ◌≤◌, List, length}
 use Rattle.daachorse_model.specs.declared.Match.{Match}
 use Rattle.daachorse_streams.specs.Streamed.{IsSameStream}
-use Rattle.daachorse_c.specs.declared.stepper.Stepper.TheVariants.{Leftmost as FindingLeftmost}
 use Rattle.daachorse_c.specs.Streams.{HasGiven, TellsMore}
 use Rattle.daachorse_c.proofs.stepper.tell_certain.Given as goal
 
 abbrev pub invariant-loop-written : goal.invariant-loop-written
-invariant-loop-written l = record {
+invariant-loop-written g l = record {
   same : IsSameStream l.fn.stream l.stream;
   long : length l.out ≡ length l.fn.out;
-  told : (told : List (Match ℕ)) → HasGiven l.fn.stream told → TellsMore told (FindingLeftmost l.stream) l.fn.out l.out l.written;
+  room : l.written ≤ length l.fn.out;
+  told : (told : List (Match ℕ)) → HasGiven g.L.Unit.EdgeLabel.width g.L.Automaton.sees l.fn.stream told → TellsMore (HasGiven g.L.Unit.EdgeLabel.width g.L.Automaton.sees l.stream) told l.fn.out l.out l.written;
 }
 
 abbrev pub decreases-loop-written : goal.decreases-loop-written
-decreases-loop-written l = length l.out - l.written
+decreases-loop-written g l = length l.out - l.written

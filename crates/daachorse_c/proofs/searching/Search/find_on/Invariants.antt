@@ -1,0 +1,17 @@
+-- What is written so far, and what is left.
+use Rattle.std.proofs.Common.{◌≡◌, ◌-◌, length}
+use Rattle.daachorse_c.specs.Held.{haystack_of, searched}
+use Rattle.daachorse_c.specs.Places.{IsPlaceIn, left_of}
+use Rattle.daachorse_c.proofs.Told.{Told}
+use Rattle.daachorse_c.proofs.searching.Search.find_on.Given as goal
+
+abbrev pub invariant-loop-written : goal.invariant-loop-written
+invariant-loop-written l =
+    let a = searched l.fn.self in let h = haystack_of l.fn.self in record {
+      within : IsPlaceIn a h l.place.at;
+      long : length l.out ≡ length l.fn.out;
+      told : Told (left_of a h l.fn.place) (left_of a h l.place) l.fn.out l.out l.written;
+    }
+
+abbrev pub decreases-loop-written : goal.decreases-loop-written
+decreases-loop-written l = length l.fn.out - l.written

@@ -33,7 +33,7 @@ pub bytes_are : (units : List ℕ) → flat_map (λ b. b ∷ []) units ≡ units
 bytes_are [] = refl
 bytes_are (b ∷ units) = ap (λ l. b ∷ l) (bytes_are units)
 
-characters_are : (units : List ℕ) → flat_map encode_utf8 units ≡ encode_utf8_all units
+pub characters_are : (units : List ℕ) → flat_map encode_utf8 units ≡ encode_utf8_all units
 characters_are [] = refl
 characters_are (c ∷ units) = ap (λ l. encode_utf8 c ++ l) (characters_are units)
 

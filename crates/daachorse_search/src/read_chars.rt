@@ -39,6 +39,20 @@ where
         }
     }
 
+    /// The bytes of what is still to come.
+    pub fn into_bytes(self) -> ReadBytes<R>
+        ensures { result ≡ self }
+    {
+        self.bytes
+    }
+
+    /// The characters of what a source of bytes has still to give.
+    pub fn from_bytes(bytes: ReadBytes<R>) -> Self
+        ensures { result ≡ bytes }
+    {
+        Self { bytes }
+    }
+
     /// Takes the rest of a character past ASCII.
     fn take_wide(&mut self, first: u8) -> Option<char>
         requires { 128 ≤ first }

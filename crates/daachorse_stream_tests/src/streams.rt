@@ -285,6 +285,28 @@ fn blocks_are_joined(rt: HostRuntime) -> Result<(), Fail> {
     Ok(())
 }
 
+/// Whether a stream whose blocks cut characters comes out with all of its 99 matches in brackets.
+fn is_text_joined(alloc: Global, kind: MatchKind) -> io::Result<bool> {
+    let mut text = Vec::new(alloc);
+    text.push(b'x')?;
+    for place in 0..100_000u32 {
+        let character = if place % 1_000 == 0 { "ß" } else { "é" };
+        text.extend_from_slice(character.as_bytes())?;
+    }
+    let words = charwise(alloc, kind, &["ééß", "éßé"])?;
+    let mut streamed = Vec::new(alloc);
+    brackets_characters(&words, alloc, &text[..], &mut streamed)?;
+    Ok(streamed.len() == 1 + 200_000 + 2 * 99)
+}
+
+#[test]
+fn blocks_of_text_are_joined(rt: HostRuntime) -> Result<(), Fail> {
+    for kind in [Standard, LeftmostLongest] {
+        expect(&rt, is_text_joined(rt.alloc(), kind)?, "cut characters");
+    }
+    Ok(())
+}
+
 #[test]
 fn text_that_is_no_utf8_ends_a_stream(rt: HostRuntime) -> Result<(), Fail> {
     let words: Charwise = CharwiseDoubleArrayAhoCorasick::new(rt.alloc(), ["ab"])?;

@@ -10,11 +10,13 @@ use Rattle.daachorse_model.specs.Units.{size}
 use Rattle.daachorse_model.specs.Dictionary.{Dictionary}
 use Rattle.daachorse_model.specs.Leftmost.{is_after, leftmost, leftmost_from, longest_key, match_at, units_to_skip}
 use Rattle.daachorse_model.proofs.FoldLaws.{as_read-append, length-as_read}
+use Rattle.daachorse_haystack.specs.ByteSources.{Yields_append}
 use Rattle.daachorse_haystack.specs.Readings.{MayReadAsRead, unit_as_read}
 use Rattle.daachorse_haystack.specs.Sources.{IsReady}
 use Rattle.daachorse_haystack.proofs.ReadingLaws.{IsReady-as_it_is, MayReadAsRead-kept, MayReadAsRead-ready, units-as_read}
-use Rattle.daachorse_haystack.proofs.SourceLaws.{IsReady-more, Yields_push}
+use Rattle.daachorse_haystack.proofs.SourceLaws.{IsReady-more}
 use Rattle.daachorse_search.specs.Views.{AutomatonView}
+use Rattle.daachorse_streams.specs.Advancing.{HasConsumed}
 use Rattle.daachorse_streams.specs.LeftmostReading.{GaveLeftmost, GivesLeftmost, HasGivenAll, HasRead, LeftmostReading, Takes, TakesAll, TakesUnits, items_to_give, units_left}
 use Rattle.daachorse_streams.specs.Streamed.{IsSameStream, LeftmostStreamed}
 
@@ -64,6 +66,23 @@ module _ {S U : Type 0} (can : S → Type 0) (steps : S → Option U → S → T
       (subst P (ap (λ w. read ++ w) (units-as_read folds unit (x ∷ [])) ∙ sym more)
       (MayReadAsRead-kept can steps left unit width as_wide may_read kept folds s read (x ∷ []) t may (t, step, refl) (let on = goes.on is_ready.ends in omega (arith, on.2)) next))
 
+-- what is read behind more units
+read_more : {U : Type 0} (unit : U → ℕ) (folds : Bool) (read : List ℕ) (xs ys : List U) → read ++ as_read folds (map unit (xs ++ ys)) ≡ (read ++ as_read folds (map unit xs)) ++ as_read folds (map unit ys)
+read_more unit folds read xs ys =
+    ap (λ l. read ++ l) (ap (as_read folds) (map-append unit xs ys) ∙ as_read-append folds (map unit xs) (map unit ys)) ∙ sym (append_assoc read (as_read folds (map unit xs)) (as_read folds (map unit ys)))
+
+last_of : {U : Type 0} (units : List U) → 0 < length units → (front : List U) × (last : U) × (units ≡ front ++ last ∷ [])
+last_of [] some = absurd (omega (arith, some))
+last_of (u ∷ []) some = ([], u, refl)
+last_of (u ∷ (v ∷ units)) some = let rest = last_of (v ∷ units) (omega arith) in (u ∷ rest.0, rest.1, ap (λ l. u ∷ l) rest.2)
+
+-- where what is certain is all there is to the end of a text, no more is certain within it
+certain_between : {V : Type 0} (width : ℕ → ℕ) (K : Dictionary V) (w a b : List ℕ) (ms : List (Match V)) → AreCertain width K w ms → leftmost width K ((w ++ a) ++ b) ≡ ms → AreCertain width K (w ++ a) ms
+certain_between width K w a b ms certain all = (
+  λ d. let next = certain.0 (a ++ d) in (next.0, ap (leftmost width K) (append_assoc w a d) ∙ next.1),
+  λ ns begins. let next = begins b in (next.0, sym all ∙ next.1),
+)
+
 read_long : {V A U : Type 0} (unit : U → ℕ) (s : LeftmostStreamed V A) (xs : List U) → length (s.read ++ as_read s.folds (map unit xs)) ≡ length s.read + length xs
 read_long unit s xs = omega (arith, length-append s.read (as_read s.folds (map unit xs)), length-as_read s.folds (map unit xs), length-map xs unit)
 
@@ -112,29 +131,40 @@ module _ {V A S U : Type 0} {width : ℕ → ℕ} {sees : A → AutomatonView V}
         let R : List (Match V) → Type 0 = λ ms. AreCertain width (sees s.automaton).content (s.read ++ as_read s.folds (map unit xs)) ms in
         subst R given (subst Q is.reads.read (subst P is.reads.same certain))
 
-    -- one more unit was taken, where no other match was certain
-    pub HasTaken-more : HasGivenAll width sees steps left unit failure s xs → (x : U) (later : S) → steps to (Some x) later → items_left left later < items_left left to
-        → (new : LeftmostStreamed V A) → new.automaton ≡ t.automaton → new.folds ≡ t.folds → new.read ≡ t.read ++ as_read t.folds (unit x ∷ []) → HasTaken width sees steps left unit failure s from (xs ++ x ∷ []) later new
-    HasTaken-more all x later step less new same folds read =
-        let units = is.takes in let reads = is.reads in
-        let one : List ℕ = unit x ∷ [] in
-        record {
-          takes = record {
-            took = Yields_push steps from xs to x later units.took step;
-            fewer = omega (arith, units.fewer, less, length-append xs (x ∷ []));
-            needed = inr (xs, x, refl, all);
-          };
-          reads = record {
-            same = same ∙ reads.same;
-            folds = folds ∙ reads.folds;
-            read =
-                read
-                ∙ ap (λ b. t.read ++ as_read b one) reads.folds
-                ∙ ap (λ w. w ++ as_read s.folds one) reads.read
-                ∙ append_assoc s.read (as_read s.folds (map unit xs)) (as_read s.folds one)
-                ∙ ap (λ w. s.read ++ w) (sym (as_read-append s.folds (map unit xs) one) ∙ ap (as_read s.folds) (sym (map-append unit xs (x ∷ []))));
-          };
-        }
+    -- more units were taken, where no other match was certain, nor is one after the first of them
+    pub HasTaken-more : HasGivenAll width sees steps left unit failure s xs → (units : List U) → 0 < length units → (later : S) → Yields steps to units later → length units + items_left left later ≤ items_left left to
+        → (new : LeftmostStreamed V A) → HasConsumed t (map unit units) new → (1 < length units → leftmost width (sees t.automaton).content new.read ≡ s.given) → HasTaken width sees steps left unit failure s from (xs ++ units) later new
+    HasTaken-more all units some later took fewer new consumed clear = record {
+      takes = record {
+        took = Yields_append steps from xs to units later is.takes.took took;
+        fewer = omega (arith, is.takes.fewer, fewer, length-append xs units);
+        needed = inr (xs ++ cut.0, cut.1, ap (λ l. xs ++ l) cut.2 ∙ sym (append_assoc xs cut.0 (cut.1 ∷ [])), by cut.0 cut.2);
+      };
+      reads = record { same = consumed.automaton ∙ is.reads.same; folds = consumed.folds ∙ is.reads.folds; read = read };
+    }
+      where
+        cut : (front : List U) × (last : U) × (units ≡ front ++ last ∷ [])
+        cut = last_of units some
+
+        read : new.read ≡ s.read ++ as_read s.folds (map unit (xs ++ units))
+        read =
+            consumed.read
+            ∙ ap (λ b. t.read ++ as_read b (map unit units)) is.reads.folds
+            ∙ ap (λ w. w ++ as_read s.folds (map unit units)) is.reads.read
+            ∙ sym (read_more unit s.folds s.read xs units)
+
+        by : (front : List U) → units ≡ front ++ cut.1 ∷ [] → HasGivenAll width sees steps left unit failure s (xs ++ front)
+        by [] parts = subst (HasGivenAll width sees steps left unit failure s) (sym (append-nil xs)) all
+        by (f ∷ front) parts =
+            let K = (sees s.automaton).content in let before : List U = f ∷ front in
+            let many : 1 < length units = omega (arith, ap length parts, length-append before (cut.1 ∷ [])) in
+            let w : List ℕ = s.read ++ as_read s.folds (map unit xs) in let a = as_read s.folds (map unit before) in let b = as_read s.folds (map unit (cut.1 ∷ [])) in
+            let whole : new.read ≡ (w ++ a) ++ b =
+            read ∙ ap (λ l. s.read ++ as_read s.folds (map unit (xs ++ l))) parts ∙ ap (λ l. s.read ++ as_read s.folds (map unit l)) (sym (append_assoc xs before (cut.1 ∷ []))) ∙ read_more unit s.folds s.read (xs ++ before) (cut.1 ∷ [])
+            ∙ ap (λ l. l ++ b) (read_more unit s.folds s.read xs before) in
+            let none : leftmost width K ((w ++ a) ++ b) ≡ s.given = ap (leftmost width K) (sym whole) ∙ ap (λ x. leftmost width (sees x).content new.read) (sym is.reads.same) ∙ clear many in
+            let C : List ℕ → Type 0 = λ l. AreCertain width K l s.given in
+            subst C (sym (read_more unit s.folds s.read xs before)) (certain_between width K w a b s.given all none)
 
   -- the source ends now
   pub ends_now : {s : LeftmostReading V A S} {t : LeftmostStreamed V A} {from to : S} {xs : List U} → s.source ≡ Some from → TakesAll width sees steps left unit failure s.stream from xs (failure to)

@@ -1,14 +1,16 @@
 //! Leftmost matches in what a reader gives.
 
-ghost use Rattle.std.specs.Prelude.{◌≡◌, ◌+◌, ◌*◌, ◌≤◌, ℕ, false, [], Some, IfSome, length};
+ghost use Rattle.std.specs.Prelude.{◌≡◌, ◌+◌, ◌*◌, ◌≤◌, ℕ, false, List, [], Some, IfSome, length};
+ghost use Rattle.daachorse_haystack.specs.Filters.{IsSoundFor};
 ghost use Rattle.daachorse_search.specs.BestScans.{HasNoLongerKey};
 ghost use Rattle.daachorse_streams.specs.LeftmostReading.{MayReadOn, ReadsOn};
 
+use crate::block_source::{BlockSource, BlockUnit};
+use crate::keep::Unkept;
 use crate::leftmost_stream::LeftmostStream;
 use daachorse_core::Match;
-use daachorse_core::ascii_fold::AsciiFold;
+use daachorse_prefilter::skipping::Skipping;
 use daachorse_search::automaton::Automaton;
-use daachorse_search::reader::ReadSource;
 use std::alloc::Allocator;
 use std::io;
 use std::marker::Model;
@@ -19,63 +21,75 @@ use std::marker::Model;
 /// Each match is given as soon as it is certain, before another unit is read. So a call of `next`
 /// reads past a match that could be longer. Matches that only the end decides are given at the end,
 /// and not where the reader fails.
+///
+/// It passes over what the prefilter passes over of each block that the reader has at hand.
 #[derive(Drop)]
 pub struct LeftmostFromReader<
     'a,
     V: Copy,
     A: Automaton<V>,
     ALLOC: Allocator,
-    S: ReadSource<A::Unit>,
+    S: BlockSource<A::Unit>,
+    B: Allocator,
 >
 where
-    A::Unit: AsciiFold,
+    A::Unit: BlockUnit,
 {
     // `None` after the end.
     stream: Option<LeftmostStream<'a, V, A, ALLOC>>,
     // `None` after its end.
     source: Option<S>,
+    skipping: Skipping<'a, B>,
 }
 
-impl<'a, V: Copy, A: Automaton<V>, ALLOC: Allocator, S: ReadSource<A::Unit>> Model
-    for LeftmostFromReader<'a, V, A, ALLOC, S>
+impl<'a, V: Copy, A: Automaton<V>, ALLOC: Allocator, S: BlockSource<A::Unit>, B: Allocator> Model
+    for LeftmostFromReader<'a, V, A, ALLOC, S, B>
 where
-    A::Unit: AsciiFold,
+    A::Unit: BlockUnit,
 {
     ghost use Rattle.std.specs.Prelude.{Option, IfSome};
     ghost use Rattle.std.specs.Option.{option_map};
+    ghost use Rattle.daachorse_haystack.specs.Filters.{IsSoundFor};
     ghost use Rattle.daachorse_streams.specs.LeftmostReading.{LeftmostReading, MayReadOn};
 
     ghost Value = { Option (LeftmostReading V A S) };
 
     ghost view = { λ s. option_map (λ stream. record { stream = stream; source = s.source }) s.stream };
 
-    ghost invariant = { λ s. IfSome s.stream (λ stream. MayReadOn S.Source.may_read stream s.source) };
+    ghost invariant = { λ s. IfSome s.stream (λ stream. MayReadOn S.Source.may_read stream s.source × IsSoundFor (A.Unit.passes s.skipping) (A.sees stream.automaton).content) };
 }
 
-impl<'a, V: Copy, A: Automaton<V>, ALLOC: Allocator, S: ReadSource<A::Unit>> LeftmostFromReader<
+impl<
     'a,
-    V,
-    A,
-    ALLOC,
-    S,
->
+    V: Copy,
+    A: Automaton<V>,
+    ALLOC: Allocator,
+    S: BlockSource<A::Unit>,
+    B: Allocator,
+> LeftmostFromReader<'a, V, A, ALLOC, S, B>
 where
-    A::Unit: AsciiFold,
+    A::Unit: BlockUnit,
 {
     /// A search that has read nothing. It takes no memory.
     ///
     /// # Conditions
-    /// The stream was given nothing yet, and has not ended.
+    /// The stream was given nothing yet, and has not ended. The prefilter lets pass at each pattern.
     #[inline(always)]
-    pub fn new(stream: LeftmostStream<'a, V, A, ALLOC>, source: S) -> Self
+    pub fn new(
+        stream: LeftmostStream<'a, V, A, ALLOC>,
+        source: S,
+        skipping: Skipping<'a, B>,
+    ) -> Self
         requires read { stream.read ≡ [] }
         requires open { stream.ended ≡ false }
         requires may { S.Source.may_read source [] }
+        requires sound { IsSoundFor (A.Unit.passes skipping) (A.sees stream.automaton).content }
         ensures { result ≡ Some (record { stream = stream.entry; source = Some source }) }
     {
         Self {
             stream: Some(stream),
             source: Some(source),
+            skipping,
         }
     }
 
@@ -91,10 +105,10 @@ where
     }
 }
 
-impl<'a, V: Copy, A: Automaton<V>, ALLOC: Allocator, S: ReadSource<A::Unit>> Iterator
-    for LeftmostFromReader<'a, V, A, ALLOC, S>
+impl<'a, V: Copy, A: Automaton<V>, ALLOC: Allocator, S: BlockSource<A::Unit>, B: Allocator> Iterator
+    for LeftmostFromReader<'a, V, A, ALLOC, S, B>
 where
-    A::Unit: AsciiFold,
+    A::Unit: BlockUnit,
 {
     ghost use Rattle.daachorse_streams.specs.LeftmostReading.{GivesLeftmost, items_to_give};
 
@@ -107,12 +121,13 @@ where
     #[inline(always)]
     fn next(&mut self) -> Option<io::Result<Match<V>>> {
         let stream = self.stream.as_mut()?;
-        if let Some(source) = &mut self.source {
-            if let Some(found) = read_on(stream, source) {
+        if let Some(source) = self.source.take() {
+            let (behind, some) = read_on(stream, source, &mut self.skipping);
+            if let Some(found) = some {
+                self.source = Some(behind);
                 return Some(Ok(found));
             }
-            let ended = self.source.take()?;
-            if let Some(error) = ended.into_failure() {
+            if let Some(error) = behind.into_failure() {
                 self.stream = None;
                 return Some(Err(error));
             }
@@ -126,25 +141,30 @@ where
     }
 }
 
-/// Reads on to the next certain match, or returns `None` at the end of the source.
+/// Reads on to the next certain match, or returns `None` at the end of the source. Returns the
+/// source behind what it read.
 #[inline(always)]
-fn read_on<V: Copy, A: Automaton<V>, ALLOC: Allocator, S: ReadSource<A::Unit>>(
+fn read_on<V: Copy, A: Automaton<V>, ALLOC: Allocator, S: BlockSource<A::Unit>, B: Allocator>(
     stream: &mut LeftmostStream<'_, V, A, ALLOC>,
-    source: &mut S,
-) -> Option<Match<V>>
+    mut source: S,
+    skipping: &mut Skipping<'_, B>,
+) -> (S, Option<Match<V>>)
 where
-    A::Unit: AsciiFold,
-    requires { MayReadOn S.Source.may_read stream.old (Some source.old) }
-    ensures reads { ReadsOn A.Unit.width A.sees S.next_gives S.remaining A.Unit.unit S.failure stream.old source.old result stream.new source.new }
-    ensures may { IfSome result (λ _. MayReadOn S.Source.may_read stream.new (Some source.new)) }
+    A::Unit: BlockUnit,
+    requires may { MayReadOn S.Source.may_read stream.old (Some source) }
+    requires sound { IsSoundFor (A.Unit.passes skipping.old) (A.sees stream.old.automaton).content }
+    ensures passes { (w : List ℕ) → A.Unit.passes skipping.new w ≡ A.Unit.passes skipping.old w }
+    ensures reads { ReadsOn A.Unit.width A.sees S.next_gives S.remaining A.Unit.unit S.failure stream.old source result.1 stream.new result.0 }
+    ensures may { IfSome result.1 (λ _. MayReadOn S.Source.may_read stream.new (Some result.0)) }
 {
     'units: loop {
         if let Some(found) = stream.next_certain() {
-            return Some(found);
+            return (source, Some(found));
         }
-        let Some(unit) = source.next() else {
-            return None;
-        };
-        stream.consume(unit);
+        let Ok((behind, some)) = source.advance(stream, skipping, &mut Unkept);
+        source = behind;
+        if !some {
+            return (source, None);
+        }
     }
 }

@@ -2,6 +2,7 @@
 #![tactic(auto)]
 
 pub mod block_source;
+pub mod keep;
 pub mod leftmost_from_reader;
 pub mod leftmost_standing;
 pub mod leftmost_stream;

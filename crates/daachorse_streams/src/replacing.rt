@@ -12,7 +12,7 @@ ghost use Rattle.daachorse_streams.specs.Marked.{IsMarkedFor};
 ghost use Rattle.daachorse_streams.specs.Replacing.{GoesOut, GoesOutSoFar};
 ghost use Rattle.daachorse_streams.specs.Streamed.{IsSameStream, IsSettled};
 
-use crate::block_source::BlockSource;
+use crate::block_source::{BlockSource, BlockUnit};
 use crate::leftmost_stream::LeftmostStream;
 use crate::stream_marks::StreamMarks;
 use daachorse_core::Match;
@@ -21,8 +21,7 @@ use daachorse_prefilter::skipping::Skipping;
 use daachorse_replacing::appending::write_whole;
 use daachorse_replacing::streaming::{ROOM, drop_first, put_out_settled};
 use daachorse_search::automaton::Automaton;
-use daachorse_search::step_unit::StepUnit;
-use std::alloc::{Allocator, Global};
+use std::alloc::Allocator;
 use std::io::{self, Write};
 
 /// The bytes that were taken and have not gone out.
@@ -31,39 +30,6 @@ struct Held<B: Allocator> {
     /// Where they begin, in bytes from the beginning of what the source gave.
     place: usize,
     bytes: Vec<u8, B>,
-}
-
-/// [`replace_leftmost_skipping`] with no prefilter.
-pub fn replace_leftmost_from<
-    V: Copy,
-    A: Automaton<V>,
-    S: BlockSource<A::Unit>,
-    O: Write,
-    F: FnMut(Match<V>, &[u8], &mut O) -> io::Result<()> + Drop,
-    B: Allocator + Copy,
-    C: Allocator,
->(
-    automaton: A,
-    marks: &StreamMarks<C>,
-    folds: bool,
-    source: S,
-    alloc: B,
-    out: &mut O,
-    write: F,
-) -> io::Result<()>
-where
-    A::Unit: StepUnit,
-    requires kind { IsLeftmostView (A.sees automaton) }
-    requires marks { IsMarkedFor A.Unit.width (A.sees automaton) marks.now }
-    requires may { S.Source.may_read source [] }
-    requires callable { F.IsAlwaysCallable write }
-    ensures whole { OnOk result (IsStreamed (λ s. s.now) O.contents F.step S.next_gives S.failure A.Unit.unit A.Unit.form
-        (λ units. leftmost A.Unit.width (A.sees automaton).content (as_read folds units)) source write out.old out.new) }
-    ensures beginning { OnErr result (IsStreamedSoFar (λ s. s.now) O.contents F.step S.next_gives S.failure A.Unit.unit A.Unit.form
-        (λ units. leftmost A.Unit.width (A.sees automaton).content (as_read folds units)) source write out.old out.new) }
-{
-    let skipping = Skipping::<Global>::new(None);
-    replace_leftmost_skipping(automaton, marks, folds, source, skipping, alloc, out, write)
 }
 
 /// Puts out what the source gives, in place of each leftmost match what `write` appends for it and
@@ -99,11 +65,11 @@ pub fn replace_leftmost_skipping<
     mut write: F,
 ) -> io::Result<()>
 where
-    A::Unit: StepUnit,
+    A::Unit: BlockUnit,
     requires kind { IsLeftmostView (A.sees automaton) }
     requires marks { IsMarkedFor A.Unit.width (A.sees automaton) marks.now }
     requires may { S.Source.may_read source [] }
-    requires sound { IsSoundFor (S.BlockSource.passes skipping) (A.sees automaton).content }
+    requires sound { IsSoundFor (A.Unit.passes skipping) (A.sees automaton).content }
     requires callable { F.IsAlwaysCallable write }
     ensures whole { OnOk result (IsStreamed (λ s. s.now) O.contents F.step S.next_gives S.failure A.Unit.unit A.Unit.form
         (λ units. leftmost A.Unit.width (A.sees automaton).content (as_read folds units)) source write out.old out.new) }

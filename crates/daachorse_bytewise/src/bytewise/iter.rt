@@ -95,13 +95,8 @@ pub type LeftmostFindIterator<'a, V, A = Global, S = Leftmost<'a, V>> = Leftmost
 >;
 
 /// The iterator of `leftmost_stream_from_reader`: leftmost matches in what a reader gives.
-pub type LeftmostReaderIterator<'a, R, V, B = Global, S = Leftmost<'a, V>> = LeftmostFromReader<
-    'a,
-    V,
-    S,
-    B,
-    ReadBytes<R>,
->;
+pub type LeftmostReaderIterator<'a, R, V, B = Global, A = Global, S = Leftmost<'a, V>> =
+    LeftmostFromReader<'a, V, S, B, ReadBytes<R>, A>;
 
 /// A search for leftmost matches that is given one byte at a time.
 pub type LeftmostStream<'a, V, B = Global, S = Leftmost<'a, V>> = leftmost_stream::LeftmostStream<

@@ -97,7 +97,7 @@ impl<V: Copy, A: Allocator> DoubleArrayAhoCorasick<V, A> {
         alloc: B,
         marks: &'a StreamMarks<C>,
         reader: R,
-    ) -> io::Result<LeftmostReaderIterator<'a, R, V, B>>
+    ) -> io::Result<LeftmostReaderIterator<'a, R, V, B, A>>
         requires kind { kind_of self.now ≢ Standard }
         requires marks { IsMarkedFor byte_width (sees (states_of self.now)) marks.now }
         ensures ok { IfOk result (BeginsReadingLeftmost (states_of self.entry.now) reader self.entry.now.folds) }
@@ -105,7 +105,7 @@ impl<V: Copy, A: Allocator> DoubleArrayAhoCorasick<V, A> {
     {
         let stream = self.leftmost_stream(alloc, marks)?;
         let source = ReadBytes::new(reader);
-        Ok(LeftmostFromReader::new(stream, source))
+        Ok(LeftmostFromReader::new(stream, source, self.skipping()))
     }
 
     /// As [`Self::leftmost_stream_from_buf_reader`], by blocks of 64 KiB.
@@ -114,7 +114,7 @@ impl<V: Copy, A: Allocator> DoubleArrayAhoCorasick<V, A> {
         alloc: B,
         marks: &'a StreamMarks<C>,
         reader: R,
-    ) -> io::Result<LeftmostReaderIterator<'a, BufReader<R, B>, V, B>>
+    ) -> io::Result<LeftmostReaderIterator<'a, BufReader<R, B>, V, B, A>>
         requires kind { kind_of self.now ≢ Standard }
         requires marks { IsMarkedFor byte_width (sees (states_of self.now)) marks.now }
         ensures ok { IfOk result (BeginsLeftmostInBlocks R.remaining (states_of self.entry.now) reader self.entry.now.folds) }

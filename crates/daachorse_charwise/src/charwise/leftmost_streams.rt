@@ -99,7 +99,7 @@ impl<V: Copy, A: Allocator> CharwiseDoubleArrayAhoCorasick<V, A> {
         alloc: B,
         marks: &'a StreamMarks<C>,
         reader: R,
-    ) -> io::Result<LeftmostReaderIterator<'a, R, V, B>>
+    ) -> io::Result<LeftmostReaderIterator<'a, R, V, B, A>>
         requires kind { kind_of self.now ≢ Standard }
         requires marks { IsMarkedFor char_width (sees (states_of self.now)) marks.now }
         ensures ok { IfOk result (BeginsReadingLeftmost (states_of self.entry.now) reader self.entry.now.folds) }
@@ -107,7 +107,7 @@ impl<V: Copy, A: Allocator> CharwiseDoubleArrayAhoCorasick<V, A> {
     {
         let stream = self.leftmost_stream(alloc, marks)?;
         let source = ReadChars::new(reader);
-        Ok(LeftmostFromReader::new(stream, source))
+        Ok(LeftmostFromReader::new(stream, source, self.skipping()))
     }
 
     /// As [`Self::leftmost_stream_from_buf_reader`], by blocks of 64 KiB.
@@ -116,7 +116,7 @@ impl<V: Copy, A: Allocator> CharwiseDoubleArrayAhoCorasick<V, A> {
         alloc: B,
         marks: &'a StreamMarks<C>,
         reader: R,
-    ) -> io::Result<LeftmostReaderIterator<'a, BufReader<R, B>, V, B>>
+    ) -> io::Result<LeftmostReaderIterator<'a, BufReader<R, B>, V, B, A>>
         requires kind { kind_of self.now ≢ Standard }
         requires marks { IsMarkedFor char_width (sees (states_of self.now)) marks.now }
         ensures ok { IfOk result (BeginsLeftmostInBlocks R.remaining (states_of self.entry.now) reader self.entry.now.folds) }

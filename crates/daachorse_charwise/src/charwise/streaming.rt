@@ -17,7 +17,7 @@ use daachorse_core::{Match, MatchKind};
 use daachorse_replacing::streaming::replace_from;
 use daachorse_search::read_chars::ReadChars;
 use daachorse_search::reader::in_blocks;
-use daachorse_streams::replacing::replace_leftmost_from;
+use daachorse_streams::replacing::replace_leftmost_skipping;
 use std::alloc::Allocator;
 use std::io::{self, Read, Write};
 
@@ -94,7 +94,16 @@ impl<V: Copy, A: Allocator + Copy> CharwiseDoubleArrayAhoCorasick<V, A> {
         let marks = self.stream_marks(*self.depths.allocator())?;
         let source = ReadChars::new(in_blocks(alloc, reader)?);
         let states = self.states.leftmost();
-        replace_leftmost_from(states, &marks, self.folds, source, alloc, out, write)
+        replace_leftmost_skipping(
+            states,
+            &marks,
+            self.folds,
+            source,
+            self.skipping(),
+            alloc,
+            out,
+            write,
+        )
     }
 
     /// The length of the longest pattern, in bytes.

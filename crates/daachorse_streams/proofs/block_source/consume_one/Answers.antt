@@ -1,5 +1,5 @@
 -- One unit is taken, and the source may be read on behind it.
-use Rattle.std.proofs.Common.{◌++◌, ◌∷◌, [], length, refl, sym, ap, ◌∙◌, append-nil, arith}
+use Rattle.std.proofs.Common.{◌∷◌, [], length, refl, sym, ap, ◌∙◌, subst, append-nil, arith}
 use Rattle.daachorse_model.specs.Units.{size}
 use Rattle.daachorse_haystack.proofs.SourceLaws.{IsReady-next}
 use Rattle.daachorse_haystack.specs.Sources.{IsReady}
@@ -29,7 +29,8 @@ returns-clause-advances g c =
       fewer = let on = c.in-Some.ensures.goes.on (ready g (goal.at.returns-clause-advances g c).In-Some).ends in omega (arith, on.2);
       consumed = record { automaton = now.automaton; folds = now.folds; read = now.read; given = now.given; ended = now.ended ∙ sym c.requires.may.0 };
       sized = omega (arith, g.met.U.EdgeLabel.sized unit c.in_range.ensures, ap length (append-nil form));
-      keeps = c.in_ok-append_to.ensures ∙ ap (λ w. c.args.held.now.items ++ w) (sym (append-nil form));
+      clear = λ more. absurd (omega (arith, more));
+      kept = subst (λ w. g.K.Keep.keeps c.args.kept.now w c.keep_unit.new.self) (sym (append-nil form)) c.in_ok-keep_unit.ensures;
     }
 
 pub returns-clause-may : goal.returns-clause-may

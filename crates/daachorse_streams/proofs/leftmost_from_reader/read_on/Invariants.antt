@@ -1,5 +1,5 @@
--- All units taken from the source were read, and no match was given.
-use Rattle.std.proofs.Common.{◌≡◌, List, Some}
+-- All units taken from the source were read, and no match was given. The prefilter passes where it did.
+use Rattle.std.proofs.Common.{◌≡◌, ℕ, List, Some}
 use Rattle.std.specs.Iterator.{items_left}
 use Rattle.daachorse_streams.specs.LeftmostReading.{MayReadOn}
 use Rattle.daachorse_streams.proofs.ReadingLaws.{HasTaken}
@@ -12,6 +12,7 @@ invariant-units g l =
       over : (xs : List g.row.A-Unit.Denot) × HasTaken unit.width g.A.Automaton.sees S.next_gives S.remaining unit.unit g.S.ReadSource.failure l.fn.stream l.fn.source xs l.source l.stream;
       given : l.stream.given ≡ l.fn.stream.given;
       may : MayReadOn g.S.Source.may_read l.stream (Some l.source);
+      passes : (w : List ℕ) → g.A.Unit.BlockUnit.passes l.skipping w ≡ g.A.Unit.BlockUnit.passes l.fn.skipping w;
     }
 
 abbrev pub decreases-units : goal.decreases-units

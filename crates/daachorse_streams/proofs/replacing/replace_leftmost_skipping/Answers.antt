@@ -2,6 +2,7 @@
 use Rattle.std.proofs.Common.{◌≡◌, ◌+◌, ◌++◌, [], ℕ, Bool, true, false, List, None, map, Bor, refl, ap, sym, ◌∙◌, subst, arith}
 use Rattle.std.proofs.lemmas.Result.{err_from_is_err_and, on_err_weaker, on_ok_weaker}
 use Rattle.std.specs.Io.KnownBytes.{Appends}
+use Rattle.std.specs.declared.vec.Vec.{Vec}
 use Rattle.daachorse_model.specs.declared.Match.{Match}
 use Rattle.daachorse_model.specs.Certain.{AreCertain}
 use Rattle.daachorse_model.specs.Folding.{as_read}
@@ -29,6 +30,10 @@ certain_as_started : {V A : Type 0} (sees : A → AutomatonView V) (width : ℕ 
 certain_as_started sees width {start = start} {after = after} {matches = matches} same is certain =
     subst (λ r. AreCertain width (sees start).content r matches) is (subst (λ a. AreCertain width (sees a).content after matches) same certain)
 
+-- the bytes were appended
+abbrev grows : {B : Type 0} → Vec ℕ B → List ℕ → Vec ℕ B → Type 0
+grows held bytes more = more.items ≡ held.items ++ bytes
+
 -- behind the certain matches, and the bytes that no later match may need
 record Settled (g : given.Over) (c : In_ok-held g) : Type 0 where
   certain : AreCertain g.A.Unit.EdgeLabel.width (g.A.Automaton.sees c.args.automaton).content c.units.stream.read c.replace_certain.new.stream.given
@@ -46,15 +51,15 @@ record Ends (g : given.Over) (c : In_ok-behind g) : Type 0 where
   steps : g.S.Iterator.next_gives c.units.source None c.in_ok-behind.behind
   same : IsSameStream c.units.stream c.advance.new.stream
   given : c.advance.new.stream.given ≡ c.replace_certain.new.stream.given
-  held : c.advance.new.held.items ≡ c.put_out_settled.new.held.items
+  held : c.advance.new.kept.items ≡ c.put_out_settled.new.held.items
 
 ends : (g : given.Over) (c : In_ok-behind g) → c.in_ok-behind.some ≡ false → Ends g c
 ends g c none =
     let S = g.S.Iterator in let label = g.A.Unit.EdgeLabel in let before = c.replace_certain.new.stream in let after = c.advance.new.stream in
-    let B : Bool → Type 0 = λ b. Advances label.width S.next_gives S.remaining label.unit label.form before c.units.source c.put_out_settled.new.held.items b after c.in_ok-behind.behind c.advance.new.held.items in
+    let B : Bool → Type 0 = λ b. Advances g.A.Automaton.sees label.width S.next_gives S.remaining label.unit label.form grows before c.units.source c.put_out_settled.new.held b after c.in_ok-behind.behind c.advance.new.kept in
     let over = subst B none c.in_ok-behind.ensures.advances in
     let I : LeftmostStreamed g.row.V.Denot g.row.A.Denot → Type 0 = λ x. IsSameStream c.units.stream x in
-    record { steps = over.0; same = subst I (sym over.1) c.in_ok-replace_certain.ensures.same; given = ap (λ (x : LeftmostStreamed g.row.V.Denot g.row.A.Denot). x.given) over.1; held = over.2 }
+    record { steps = over.0; same = subst I (sym over.1) c.in_ok-replace_certain.ensures.same; given = ap (λ (x : LeftmostStreamed g.row.V.Denot g.row.A.Denot). x.given) over.1; held = ap (λ (x : Vec ℕ g.row.B.Denot). x.items) over.2 }
 
 pub returns-in_err-stream-clause-beginning : goal.returns-in_err-stream-clause-beginning
 returns-in_err-stream-clause-beginning g c =
@@ -122,7 +127,7 @@ advance-requires-clause-may g c =
 pub advance-requires-clause-sound : goal.advance-requires-clause-sound
 advance-requires-clause-sound g c =
     let was = c.units.invariant in
-    let S : g.row.A.Denot → Type 0 = λ a. IsSoundFor (g.S.BlockSource.passes c.units.skipping) (g.A.Automaton.sees a).content in
+    let S : g.row.A.Denot → Type 0 = λ a. IsSoundFor (g.A.Unit.BlockUnit.passes c.units.skipping) (g.A.Automaton.sees a).content in
     subst S (sym (c.in_ok-replace_certain.ensures.same.0 ∙ was.automaton)) (λ key rest is. was.passes (key ++ rest) ∙ c.requires.sound key rest is)
 
 pub returns-in-Some-clause-beginning : goal.returns-in-Some-clause-beginning
@@ -179,11 +184,11 @@ returns-in_err-behind-clause-beginning g c =
 
 -- units were taken
 took : (g : given.Over) (c : In_ok-behind g) → c.in_ok-behind.some ≡ true
-    → TakesUnits g.A.Unit.EdgeLabel.width g.S.Iterator.next_gives g.S.Iterator.remaining g.A.Unit.EdgeLabel.unit g.A.Unit.EdgeLabel.form c.replace_certain.new.stream c.units.source c.put_out_settled.new.held.items c.advance.new.stream c.in_ok-behind.behind c.advance.new.held.items
+    → TakesUnits g.A.Automaton.sees g.A.Unit.EdgeLabel.width g.S.Iterator.next_gives g.S.Iterator.remaining g.A.Unit.EdgeLabel.unit g.A.Unit.EdgeLabel.form grows c.replace_certain.new.stream c.units.source c.put_out_settled.new.held c.advance.new.stream c.in_ok-behind.behind c.advance.new.kept
 took g c some =
     let S = g.S.Iterator in let label = g.A.Unit.EdgeLabel in
     let B : Bool → Type 0 =
-    λ b. Advances label.width S.next_gives S.remaining label.unit label.form c.replace_certain.new.stream c.units.source c.put_out_settled.new.held.items b c.advance.new.stream c.in_ok-behind.behind c.advance.new.held.items in
+    λ b. Advances g.A.Automaton.sees label.width S.next_gives S.remaining label.unit label.form grows c.replace_certain.new.stream c.units.source c.put_out_settled.new.held b c.advance.new.stream c.in_ok-behind.behind c.advance.new.kept in
     subst B some c.in_ok-behind.ensures.advances
 
 pub units-smaller : goal.units-smaller
@@ -203,5 +208,5 @@ units-preserved g c =
       goes =
           goes-more now.goes g.met.A.Unit.AsciiFold.as_wide came.units _ _ _ _ came.consumed.given came.took
           (ready_as_it_is S.can_next S.next_gives S.remaining label.unit label.width g.met.A.Unit.AsciiFold.as_wide g.S.Source.may_read g.met.S.Source.ready after.folds c.in_ok-behind.behind after.read may.1) came.sized
-          (came.consumed.read ∙ ap (λ b. stream.read ++ as_read b come) (done.same.1 ∙ was.folds) ∙ ap (λ l. l ++ as_read c.args.folds come) done.same.2) came.keeps;
+          (came.consumed.read ∙ ap (λ b. stream.read ++ as_read b come) (done.same.1 ∙ was.folds) ∙ ap (λ l. l ++ as_read c.args.folds come) done.same.2) came.kept;
     }

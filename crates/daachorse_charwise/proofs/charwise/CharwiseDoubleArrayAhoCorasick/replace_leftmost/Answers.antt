@@ -11,6 +11,9 @@ use Rattle.daachorse_model.specs.Dictionary.{Dictionary}
 use Rattle.daachorse_model.specs.Folding.{as_read}
 use Rattle.daachorse_model.specs.Leftmost.{leftmost}
 use Rattle.daachorse_model.specs.Units.{char_width}
+use Rattle.daachorse_haystack.specs.Filters.{IsSoundFor}
+use Rattle.daachorse_prefilter.specs.Asked.{lets_pass}
+use Rattle.daachorse_prefilter.specs.Buckets.{may_begin}
 use Rattle.daachorse_replacing.specs.ByKind.{non_overlapping}
 use Rattle.daachorse_replacing.proofs.ReadLaws.{read-nothing, replaces-characters}
 use Rattle.daachorse_charwise_states.specs.Parts.{Parts, content}
@@ -35,14 +38,19 @@ returns-in_err-in_blocks g c =
     let p = err_from_is_err_and c.from_residual-in_err-in_blocks.result c.from_residual-in_err-in_blocks.ensures.1 in
     rw p.1 (read-nothing _ g.O.Write.contents _ IsScalar encode_utf8_all _ _ _ _ refl)
 
-pub replace_leftmost_from-requires-clause-marks : goal.replace_leftmost_from-requires-clause-marks
-replace_leftmost_from-requires-clause-marks g c =
+pub replace_leftmost_skipping-requires-clause-marks : goal.replace_leftmost_skipping-requires-clause-marks
+replace_leftmost_skipping-requires-clause-marks g c =
     let P : Parts g.row.V.Denot → Type 0 = λ p. IsMarkedFor char_width (sees p) c.in_ok-marks.marks in
     subst P (sym (c.leftmost-states.ensures ∙ ap (λ (a : Automaton g.row.V.Denot). a.parts) c.self.view_is)) c.in_ok-marks.ensures.ok
+
+pub replace_leftmost_skipping-requires-clause-sound : goal.replace_leftmost_skipping-requires-clause-sound
+replace_leftmost_skipping-requires-clause-sound g c =
+    let P : Parts g.row.V.Denot → Type 0 = λ p. IsSoundFor (λ w. lets_pass (may_begin c.skipping.result.buckets) c.skipping.result.filter (encode_utf8_all w)) (content p) in
+    subst P (sym (c.leftmost-states.ensures ∙ ap (λ (a : Automaton g.row.V.Denot). a.parts) c.self.view_is)) c.skipping.ensures.sound
 
 pub returns : goal.returns
 returns g c =
     let M : Parts g.row.V.Denot → Bool → List ℕ → List (Match g.row.V.Denot) = λ p folds units. leftmost char_width (content p) (as_read folds units) in
     let a = c.args.self.now in
     let same = ap (λ p. M p c.self.inside.folds) c.leftmost-states.ensures ∙ ap (λ (a : Automaton g.row.V.Denot). M a.parts a.folds) c.self.view_is ∙ by_kind char_width (dictionary_of a) a.folds (kind_of a) c.requires.kind in
-    replaces-characters _ g.O.Write.contents _ (reader_remaining g.R.Read.remaining) _ _ _ c.new-source.ensures.reader c.in_ok-in_blocks.ensures.reads.left same c.replace_leftmost_from.result c.replace_leftmost_from.ensures.whole c.replace_leftmost_from.ensures.beginning
+    replaces-characters _ g.O.Write.contents _ (reader_remaining g.R.Read.remaining) _ _ _ c.new-source.ensures.reader c.in_ok-in_blocks.ensures.reads.left same c.replace_leftmost_skipping.result c.replace_leftmost_skipping.ensures.whole c.replace_leftmost_skipping.ensures.beginning

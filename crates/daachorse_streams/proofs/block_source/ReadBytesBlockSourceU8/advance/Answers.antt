@@ -1,66 +1,54 @@
--- The bytes of a block are taken of the reader as one by one.
-use Rattle.std.proofs.Common.{◌≡◌, ◌∷◌, [], ℕ, List, Option, sym, ap, ◌∙◌, subst, arith}
+-- What was taken in a block was given by the source.
+use Rattle.std.proofs.Common.{◌≡◌, ◌∷◌, [], Bool, true, Option, Some, None, ap, ◌∙◌, subst}
 use Rattle.std.proofs.lemmas.Result.{IfOk-weaker}
-use Rattle.std.specs.Io.KnownBytes.{Consumes, Keeps}
 use Rattle.std.specs.Iterator.{at_most}
+use Rattle.std.specs.Prelude.{⊤}
+use Rattle.daachorse_core.specs.FoldedForms.{byte_as_wide}
 use Rattle.daachorse_model.specs.Units.{byte_width}
-use Rattle.daachorse_search.specs.Readers.{GivesByte, Reading, behind, to_give}
-use Rattle.daachorse_streams.specs.declared.block_source.Taken.{Taken}
-use Rattle.daachorse_streams.specs.declared.block_source.Taken.TheVariants.{Block, Nothing}
-use Rattle.daachorse_streams.specs.Advancing.{Advances, TakesBlock}
-use Rattle.daachorse_streams.proofs.AdvancingLaws.{advances-kept, consumed_whole, fits_as_read, may_read_behind, takes-block}
+use Rattle.daachorse_search.specs.Readers.{GivesByte}
+use Rattle.daachorse_streams.specs.Advancing.{Advances, SkipsBlock}
+use Rattle.daachorse_streams.specs.Streamed.{LeftmostStreamed}
+use Rattle.daachorse_streams.proofs.AdvancingLaws.{fits_as_read, gives_bytes, skips-advances, skips-may, stays-advances, stays-may}
 use Rattle.daachorse_streams.proofs.block_source.ReadBytesBlockSourceU8.advance.Given as given
 use Rattle.daachorse_streams.proofs.block_source.ReadBytesBlockSourceU8.advance.Goals as goal
-use Rattle.daachorse_streams.proofs.block_source.ReadBytesBlockSourceU8.advance.Goals.{In-Block}
+use Rattle.daachorse_streams.proofs.block_source.ReadBytesBlockSourceU8.advance.Goals.{In_ok-behind}
 
-pub take_block-requires-clause-fits : goal.take_block-requires-clause-fits
-take_block-requires-clause-fits g c =
+pub skip_block-requires-clause-fits : goal.skip_block-requires-clause-fits
+skip_block-requires-clause-fits g c =
     let s = c.args.stream.now in
-    omega (arith, fits_as_read s.folds c.args.self s.read c.requires.may.1, c.min-most.ensures, c.into_parts-reader.ensures.left)
+    fits_as_read byte_width byte_as_wide s.folds c.args.self s.read c.requires.may.1
 
--- a block was taken
-taken : (g : given.Over) (c : In-Block g) → TakesBlock c.min-most.result (g.R.Read.remaining c.into_parts-reader.result.0) c.args.stream.now c.args.held.now.items (Block c.in-Block.count) (g.R.Read.remaining c.take_block.new.reader) c.take_block.new.stream
-    c.take_block.new.held.items
-taken g c =
-    let known = g.R.Read.remaining in
-    let T : Taken → Type 0 = λ r. TakesBlock c.min-most.result (known c.into_parts-reader.result.0) c.args.stream.now c.args.held.now.items r (known c.take_block.new.reader) c.take_block.new.stream c.take_block.new.held.items in
-    subst T c.in-Block.is c.in_ok-count.ensures.ok
+-- what was skipped in the block
+skipped : (g : given.Over) (c : In_ok-behind g) (taken : Option Bool) → c.in_ok-behind.taken ≡ taken
+    → SkipsBlock g.A.Automaton.sees (λ b. ⊤) byte_width (λ u. u) (λ b. b ∷ []) g.K.Keep.keeps g.R.Read.remaining c.args.stream.now c.args.self c.args.kept.now taken c.skip_block.new.stream c.in_ok-behind.behind c.skip_block.new.kept
+skipped g c taken is =
+    let T : Option Bool → Type 0 =
+    λ x. SkipsBlock g.A.Automaton.sees (λ b. ⊤) byte_width (λ u. u) (λ b. b ∷ []) g.K.Keep.keeps g.R.Read.remaining c.args.stream.now c.args.self c.args.kept.now x c.skip_block.new.stream c.in_ok-behind.behind c.skip_block.new.kept in
+    subst T is c.in_ok-behind.ensures.ok
 
--- what the source had to give is what its reader had
-had : (g : given.Over) (from : Reading g.row.R.Denot) (reader : g.row.R.Denot) → reader ≡ from.reader → from.ahead ≡ [] → g.R.Read.remaining reader ≡ to_give g.R.Read.remaining from
-had g from reader same none = let known = g.R.Read.remaining in ap known same ∙ ap (λ l. behind l (known from.reader)) (sym none)
+pub returns-in-Some-clause-advances : goal.returns-in-Some-clause-advances
+returns-in-Some-clause-advances g c =
+    let known = g.R.Read.remaining in let is = skipped g (goal.at.returns-in-Some-clause-advances g c).In_ok-behind (Some c.in-Some.some) c.in-Some.is in
+    skips-advances known g.A.Automaton.sees g.K.Keep.keeps (gives_bytes known) c.args.stream.now c.skip_block.new.stream c.args.self c.in_ok-behind.behind c.args.kept.now c.skip_block.new.kept c.in-Some.some is
 
-pub returns-in-Block-clause-advances : goal.returns-in-Block-clause-advances
-returns-in-Block-clause-advances g c =
-    let known = g.R.Read.remaining in let parts = c.into_parts-reader.ensures in let to = c.from_parts.ensures in
-    let took = taken g (goal.at.returns-in-Block-clause-advances g c).In-Block in
-    let C : Option (List ℕ) → Type 0 = λ old. Consumes old (known c.from_parts.result.reader) took.0 in
-    let D : g.row.R.Denot → Type 0 = λ r. Consumes (known c.into_parts-reader.result.0) (known r) took.0 in
-    takes-block known c.args.stream.now c.take_block.new.stream c.args.self c.from_parts.result took.0 c.args.held.now.items c.take_block.new.held.items (ap (λ (x : Reading g.row.R.Denot). x.ahead) to)
-    (subst C (had g c.args.self c.into_parts-reader.result.0 parts.reader parts.ahead) (subst D (sym (ap (λ (x : Reading g.row.R.Denot). x.reader) to)) took.4))
-    (omega (arith, took.2, took.3, ap (λ (x : Reading g.row.R.Denot). x.left) to, parts.left, c.min-most.ensures))
-    (omega (arith, took.3, took.1.some)) (consumed_whole took.1 took.3) took.5
+pub returns-in-Some-clause-may : goal.returns-in-Some-clause-may
+returns-in-Some-clause-may g c some =
+    let known = g.R.Read.remaining in let is = skipped g (goal.at.returns-in-Some-clause-may g c).In_ok-behind (Some true) (c.in-Some.is ∙ ap Some some) in
+    skips-may known g.A.Automaton.sees g.K.Keep.keeps (gives_bytes known) c.args.stream.now c.skip_block.new.stream c.args.self c.in_ok-behind.behind c.args.kept.now c.skip_block.new.kept is c.requires.may
 
-pub returns-in-Block-clause-may : goal.returns-in-Block-clause-may
-returns-in-Block-clause-may g c some =
-    let s = c.args.stream.now in let parts = c.into_parts-reader.ensures in
-    let took = taken g (goal.at.returns-in-Block-clause-may g c).In-Block in let consumed = consumed_whole took.1 took.3 in (
-      consumed.ended ∙ c.requires.may.0,
-      may_read_behind s.folds c.take_block.new.stream.folds c.args.self c.from_parts.result s.read took.0 c.take_block.new.stream.read c.requires.may.1
-          (omega (arith, took.2, took.3, ap (λ (x : Reading g.row.R.Denot). x.left) c.from_parts.ensures, parts.left, c.min-most.ensures)) consumed.folds consumed.read,
-    )
+pub consume_one-requires-in-None-clause-taken : goal.consume_one-requires-in-None-clause-taken
+consume_one-requires-in-None-clause-taken g c =
+    let is = skipped g (goal.at.consume_one-requires-in-None-clause-taken g c).In_ok-behind None c.in-None.is in ap (λ (x : LeftmostStreamed g.row.V.Denot g.row.A.Denot). x.waiting) is.2 ∙ c.requires.taken
 
-pub returns-in-Nothing-clause-advances : goal.returns-in-Nothing-clause-advances
-returns-in-Nothing-clause-advances g c =
-    let known = g.R.Read.remaining in let parts = c.into_parts-reader.ensures in let at = c.from_parts-in-Nothing in
-    let s = c.args.stream.now in let from = c.args.self in let held = c.args.held.now.items in let mid = c.take_block.new.stream in let kept = c.take_block.new.held.items in
-    let t = c.consume_one-in-Nothing.new.stream in let more = c.consume_one-in-Nothing.new.held.items in
-    let T : Taken → Type 0 = λ r. TakesBlock c.min-most.result (known c.into_parts-reader.result.0) s held r (known c.take_block.new.reader) mid kept in
-    let took : TakesBlock c.min-most.result (known c.into_parts-reader.result.0) s held Nothing (known c.take_block.new.reader) mid kept = subst T c.in-Nothing.is c.in_ok-count.ensures.ok in
-    let K : Option (List ℕ) → Type 0 = λ old. Keeps old (to_give known at.result) in
-    let L : Option (List ℕ) → Type 0 = λ new. Keeps (known c.into_parts-reader.result.0) new in
-    let keeps = subst K (had g from c.into_parts-reader.result.0 parts.reader parts.ahead) (subst L (sym (ap (to_give known) at.ensures)) took.0) in
-    let left = ap (λ (x : Reading g.row.R.Denot). x.left) at.ensures ∙ parts.left in
-    IfOk-weaker c.consume_one-in-Nothing.result (λ r. Advances byte_width (GivesByte known) (λ x. at_most x.left) (λ b. b) (λ b. b ∷ []) mid at.result kept r.1 t r.0 more)
-    (λ r. Advances byte_width (GivesByte known) (λ x. at_most x.left) (λ b. b) (λ b. b ∷ []) s from held r.1 t r.0 more)
-    (λ r h. advances-kept known s t mid from at.result r.0 held kept more r.1 keeps left took.1 took.2 h) c.consume_one-in-Nothing.ensures.advances
+pub consume_one-requires-in-None-clause-may : goal.consume_one-requires-in-None-clause-may
+consume_one-requires-in-None-clause-may g c =
+    let known = g.R.Read.remaining in let is = skipped g (goal.at.consume_one-requires-in-None-clause-may g c).In_ok-behind None c.in-None.is in
+    stays-may known g.A.Automaton.sees g.K.Keep.keeps (gives_bytes known) c.args.stream.now c.skip_block.new.stream c.args.self c.in_ok-behind.behind c.args.kept.now c.skip_block.new.kept is c.requires.may
+
+pub returns-in-None-clause-advances : goal.returns-in-None-clause-advances
+returns-in-None-clause-advances g c =
+    let known = g.R.Read.remaining in let is = skipped g (goal.at.returns-in-None-clause-advances g c).In_ok-behind None c.in-None.is in
+    let last = c.consume_one-in-None.new.stream in let all = c.consume_one-in-None.new.kept in
+    IfOk-weaker c.consume_one-in-None.result (λ r. Advances g.A.Automaton.sees byte_width (GivesByte known) (λ x. at_most x.left) (λ u. u) (λ b. b ∷ []) g.K.Keep.keeps c.skip_block.new.stream c.in_ok-behind.behind c.skip_block.new.kept r.1 last r.0 all)
+    (λ r. Advances g.A.Automaton.sees byte_width (GivesByte known) (λ x. at_most x.left) (λ u. u) (λ b. b ∷ []) g.K.Keep.keeps c.args.stream.now c.args.self c.args.kept.now r.1 last r.0 all)
+    (λ r h. stays-advances known g.A.Automaton.sees g.K.Keep.keeps (gives_bytes known) c.args.stream.now c.skip_block.new.stream c.args.self c.in_ok-behind.behind c.args.kept.now c.skip_block.new.kept is r.1 last r.0 all h) c.consume_one-in-None.ensures.advances

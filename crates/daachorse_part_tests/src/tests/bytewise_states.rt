@@ -1,25 +1,16 @@
-//! States over bytes, where no contract speaks: blocks that siblings share, and steppers.
-
-ghost use Rattle.std.specs.Prelude.{◌≡◌, IfOk};
-ghost use Rattle.daachorse_model.specs.declared.MatchKind.TheVariants.{Standard};
+//! States over bytes, where no contract speaks: blocks that siblings share.
 
 use super::expect;
 use daachorse_bytewise_states::states::States;
+use daachorse_core::MatchKind;
 use daachorse_core::errors::Result;
-use daachorse_core::{Match, MatchKind};
 use daachorse_patterns::trie::build_trie;
 use daachorse_placement::build_helper::Profile;
-use daachorse_search::find::FindWalk;
-use daachorse_search::find_stepper::FindStepper;
-use daachorse_search::overlapping::OverlappingWalk;
-use daachorse_search::overlapping_stepper::FindOverlappingStepper;
 use std::alloc::Global;
 use std::test::Fail;
 
 /// The standard states of these patterns.
-fn built(alloc: Global, patvals: &[(&[u8], u32)]) -> Result<States<u32>>
-    ensures { IfOk result (λ s. s.kind ≡ Standard) }
-{
+fn built(alloc: Global, patvals: &[(&[u8], u32)]) -> Result<States<u32>> {
     let nfa = build_trie(alloc, MatchKind::Standard, Some(0x00ff_ffff), patvals)?;
     States::build(alloc, MatchKind::Standard, nfa, &Profile::new(alloc))
 }
@@ -102,41 +93,5 @@ fn siblings_share_blocks(rt: HostRuntime) -> Result<(), Fail> {
         expect(&rt, states.num_states() == num_states, "the states");
         expect(&rt, have_bases(rt.alloc(), &states, bases)?, "the bases");
     }
-    Ok(())
-}
-
-/// What the stepper without overlaps reports after a byte.
-fn told(states: &States<u32>, byte: u8) -> Option<Match<u32>>
-    requires { states.now.kind ≡ Standard }
-{
-    let mut stepper = FindStepper::new(FindWalk::new(states.standard()), &[], false);
-    stepper.consume(byte);
-    stepper.matches()
-}
-
-/// The first match that the overlapping stepper reports after a byte.
-fn told_first(states: &States<u32>, byte: u8) -> Option<Match<u32>>
-    requires { states.now.kind ≡ Standard }
-{
-    let mut stepper = FindOverlappingStepper::new(
-        OverlappingWalk::new(states.standard()),
-        &[],
-        false,
-    );
-    stepper.consume(byte);
-    stepper.matches().next()
-}
-
-#[test]
-fn steppers_run_over_a_view(rt: HostRuntime) -> Result<(), Fail> {
-    let states = built(rt.alloc(), &[(b"a", 7)])?;
-    let wanted = Some(Match {
-        start: 0,
-        end: 1,
-        value: 7,
-    });
-    expect(&rt, told(&states, b'a') == wanted, "without overlaps");
-    expect(&rt, told_first(&states, b'a') == wanted, "all matches");
-    expect(&rt, told(&states, b'b').is_none(), "no match");
     Ok(())
 }

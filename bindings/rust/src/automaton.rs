@@ -1,37 +1,97 @@
-//! Automata over bytes.
+//! Automata.
 
 use crate::builder::{Builder, Kind};
 use crate::form::longest_pattern;
 use crate::handles::Handles;
+use crate::haystack::Haystack;
 use crate::library::*;
-use crate::matches::Matches;
+use crate::matches::{GoingOn, Match, Matches, NO_MATCH};
 use crate::refusal::{done, Refusal};
 use crate::stream::Search::{Find, Leftmost, NoSuffix, Overlapping};
 use crate::stream::Stream;
+use std::marker::PhantomData;
 use std::sync::Arc;
 
-/// An automaton over bytes, with a value of 32 bits for each pattern.
+/// An automaton over the bytes of `[u8]` or the characters of `str`, with a value of 32 bits for
+/// each pattern. Over characters no match begins or ends inside one; places are in bytes.
 ///
 /// Threads may search it at once, by reference or by clones, which share it.
-#[derive(Clone)]
-pub struct Automaton {
+///
+/// ```
+/// use daachorse_c::{Automaton, Kind};
+///
+/// let automaton = Automaton::new(Kind::Standard, true, ["世界", "に"])?;
+/// let ends: Vec<usize> = automaton.find("世界中に")?.map(|found| found.end).collect();
+/// assert_eq!(ends, [6, 12]);
+/// # Ok::<(), daachorse_c::Refusal>(())
+/// ```
+pub struct Automaton<H: ?Sized = [u8]> {
     handles: Arc<Handles>,
     // The most bytes of a pattern.
     longest: usize,
+    of: PhantomData<fn(&H)>,
+}
+
+/// How much an automaton holds.
+#[repr(C)]
+#[derive(Clone, Copy, Debug, PartialEq, Eq)]
+pub struct Counts {
+    /// The number of patterns, where equal ones count each.
+    pub patterns: usize,
+    /// The number of states: one for each prefix of a pattern, the empty one included.
+    pub states: usize,
+    /// The number of bytes of the written form.
+    pub size: usize,
+    /// The number of bytes of the longest pattern, or 0 if there is none.
+    pub longest: usize,
+}
+
+impl<H: ?Sized> Clone for Automaton<H> {
+    fn clone(&self) -> Self {
+        Automaton {
+            handles: Arc::clone(&self.handles),
+            longest: self.longest,
+            of: PhantomData,
+        }
+    }
 }
 
 impl Automaton {
+    /// Reads the automaton over bytes that the bytes begin with, and returns it with the remaining
+    /// bytes. The bytes may be untrusted.
+    ///
+    /// # Errors
+    ///
+    /// No automaton begins the bytes, or an allocation failed.
+    pub fn read(bytes: &[u8]) -> Result<(Automaton, &[u8]), Refusal> {
+        Automaton::read_over(bytes)
+    }
+}
+
+impl Automaton<str> {
+    /// Does what [`Automaton::read`] does for an automaton over characters. What was written does
+    /// not tell its unit: read over another it is refused, or is another automaton.
+    ///
+    /// # Errors
+    ///
+    /// No automaton begins the bytes, or an allocation failed.
+    pub fn read_text(bytes: &[u8]) -> Result<(Automaton<str>, &[u8]), Refusal> {
+        Automaton::read_over(bytes)
+    }
+}
+
+impl<H: Haystack + ?Sized> Automaton<H> {
     /// Builds an automaton of these patterns. Pattern `i`, counted from 0, has the value `i`. A
     /// [`Builder`] has more settings.
     ///
     /// # Errors
     ///
     /// The library refuses the patterns, or an allocation failed.
-    pub fn new<'p, P: IntoIterator<Item = &'p [u8]>>(
-        kind: Kind,
-        use_prefilter: bool,
-        patterns: P,
-    ) -> Result<Automaton, Refusal> {
+    pub fn new<'p, P>(kind: Kind, use_prefilter: bool, patterns: P) -> Result<Self, Refusal>
+    where
+        H: 'p,
+        P: IntoIterator<Item = &'p H>,
+    {
         let builder = Builder::new().kind(kind).use_prefilter(use_prefilter);
         builder.build(patterns)
     }
@@ -41,29 +101,13 @@ impl Automaton {
     /// # Errors
     ///
     /// The library refuses the patterns, or an allocation failed.
-    pub fn with_values<'p, P: IntoIterator<Item = (&'p [u8], u32)>>(
-        kind: Kind,
-        use_prefilter: bool,
-        patvals: P,
-    ) -> Result<Automaton, Refusal> {
+    pub fn with_values<'p, P>(kind: Kind, use_prefilter: bool, patvals: P) -> Result<Self, Refusal>
+    where
+        H: 'p,
+        P: IntoIterator<Item = (&'p H, u32)>,
+    {
         let builder = Builder::new().kind(kind).use_prefilter(use_prefilter);
         builder.build_with_values(patvals)
-    }
-
-    /// Reads the automaton that the bytes begin with, and returns it with the remaining bytes. The
-    /// bytes may be untrusted.
-    ///
-    /// # Errors
-    ///
-    /// No automaton begins the bytes, or an allocation failed.
-    pub fn read(bytes: &[u8]) -> Result<(Automaton, &[u8]), Refusal> {
-        let mut handle = Handle::empty();
-        let mut taken = 0;
-        done(unsafe { daachorse_read(&mut handle, bytes.as_ptr(), bytes.len(), &mut taken) })?;
-        Ok((
-            Automaton::of(handle, longest_pattern(bytes)),
-            &bytes[taken..],
-        ))
     }
 
     /// Returns a copy that finds the same, faster if patterns are few and short: it has rows of the
@@ -72,7 +116,7 @@ impl Automaton {
     /// # Errors
     ///
     /// An allocation of the library failed.
-    pub fn accelerate(&self) -> Result<Automaton, Refusal> {
+    pub fn accelerate(&self) -> Result<Self, Refusal> {
         let mut other = Handle::empty();
         let answer = self
             .handles
@@ -80,7 +124,37 @@ impl Automaton {
         done(answer).map(|()| Automaton::of(other, self.longest))
     }
 
-    /// Returns the automaton as bytes, for [`Automaton::read`].
+    /// The kind of searches that the automaton serves.
+    pub fn kind(&self) -> Kind {
+        Kind::ALL[self.kind_and_case().0 as usize]
+    }
+
+    /// Whether searches read A to Z as a to z.
+    pub fn is_ascii_case_insensitive(&self) -> bool {
+        self.kind_and_case().1
+    }
+
+    /// Counts what the automaton holds. It walks over all patterns, and writes the automaton to
+    /// memory that it frees.
+    ///
+    /// # Errors
+    ///
+    /// An allocation of the library failed.
+    pub fn counts(&self) -> Result<Counts, Refusal> {
+        let mut counts = Counts {
+            patterns: 0,
+            states: 0,
+            size: 0,
+            longest: 0,
+        };
+        let answer = self
+            .handles
+            .with(|handle| unsafe { daachorse_count(handle, &mut counts) });
+        done(answer).map(|()| counts)
+    }
+
+    /// Returns the automaton as bytes, for [`Automaton::read`], or over characters for
+    /// [`Automaton::read_text`].
     ///
     /// # Errors
     ///
@@ -118,7 +192,7 @@ impl Automaton {
     /// # Errors
     ///
     /// An allocation of the library failed.
-    pub fn patterns(&self) -> Result<Vec<(Vec<u8>, u32)>, Refusal> {
+    pub fn patterns(&self) -> Result<Vec<(H::Owned, u32)>, Refusal> {
         let (mut bytes, mut ends, mut values) = (Vec::new(), Vec::new(), Vec::new());
         let (mut size, mut count) = (0, 0);
         loop {
@@ -136,7 +210,7 @@ impl Automaton {
                 )
             });
             if answer != Refusal::NoRoom as u32 {
-                return done(answer).map(|()| patterns_in(&bytes, &ends, &values));
+                return done(answer).map(|()| patterns_in::<H>(&bytes, &ends, &values));
             }
             bytes.resize(size, 0);
             ends.resize(count, 0);
@@ -149,8 +223,8 @@ impl Automaton {
     /// # Errors
     ///
     /// [`Refusal::WrongKind`]: the automaton is not standard.
-    pub fn find<'h>(&self, haystack: &'h [u8]) -> Result<Matches<'h>, Refusal> {
-        Matches::new(&self.handles, daachorse_find, haystack, None)
+    pub fn find<'h>(&self, haystack: &'h H) -> Result<Matches<'h>, Refusal> {
+        self.find_on(haystack, self.kind() == Kind::Standard)
     }
 
     /// Finds every match, by ascending ends, the longest first of those that end together.
@@ -158,7 +232,7 @@ impl Automaton {
     /// # Errors
     ///
     /// [`Refusal::WrongKind`]: the automaton is not standard.
-    pub fn find_overlapping<'h>(&self, haystack: &'h [u8]) -> Result<Matches<'h>, Refusal> {
+    pub fn find_overlapping<'h>(&self, haystack: &'h H) -> Result<Matches<'h>, Refusal> {
         self.overlapping(daachorse_find_overlapping, haystack)
     }
 
@@ -167,10 +241,7 @@ impl Automaton {
     /// # Errors
     ///
     /// [`Refusal::WrongKind`]: the automaton is not standard.
-    pub fn find_overlapping_no_suffix<'h>(
-        &self,
-        haystack: &'h [u8],
-    ) -> Result<Matches<'h>, Refusal> {
+    pub fn find_overlapping_no_suffix<'h>(&self, haystack: &'h H) -> Result<Matches<'h>, Refusal> {
         self.overlapping(daachorse_find_overlapping_no_suffix, haystack)
     }
 
@@ -188,12 +259,34 @@ impl Automaton {
     /// # Errors
     ///
     /// [`Refusal::WrongKind`]: the automaton is standard.
-    pub fn leftmost_find<'h>(&self, haystack: &'h [u8]) -> Result<Matches<'h>, Refusal> {
-        Matches::new(&self.handles, daachorse_leftmost_find, haystack, None)
+    pub fn leftmost_find<'h>(&self, haystack: &'h H) -> Result<Matches<'h>, Refusal> {
+        self.find_on(haystack, self.kind() != Kind::Standard)
+    }
+
+    /// Returns the patterns that are the whole text, in order of registration.
+    ///
+    /// ```
+    /// use daachorse_c::{Automaton, Kind};
+    ///
+    /// let automaton = Automaton::new(Kind::Standard, true, ["ab", "a", "ab"])?;
+    /// let values: Vec<u32> = automaton.get("ab").iter().map(|found| found.value).collect();
+    /// assert_eq!(values, [0, 2]);
+    /// let ends: Vec<usize> = automaton.common_prefixes("abc").iter().map(|it| it.end).collect();
+    /// assert_eq!(ends, [1, 2, 2]);
+    /// # Ok::<(), daachorse_c::Refusal>(())
+    /// ```
+    pub fn get(&self, text: &H) -> Vec<Match> {
+        self.look_up(daachorse_get, text)
+    }
+
+    /// Returns the patterns that begin the text, the shortest first.
+    pub fn common_prefixes(&self, text: &H) -> Vec<Match> {
+        self.look_up(daachorse_common_prefixes, text)
     }
 
     /// Returns whether some pattern occurs.
-    pub fn is_match(&self, haystack: &[u8]) -> bool {
+    pub fn is_match(&self, haystack: &H) -> bool {
+        let haystack = haystack.bytes();
         let mut found = false;
         // The handle has an automaton, and nothing else is refused.
         let _done = self.handles.with(|handle| unsafe {
@@ -214,10 +307,11 @@ impl Automaton {
     /// assert_eq!(automaton.replace(b"xabcdab", &["one", "two"]), b"xtwoone");
     /// # Ok::<(), daachorse_c::Refusal>(())
     /// ```
-    pub fn replace<T: AsRef<[u8]>>(&self, haystack: &[u8], texts: &[T]) -> Vec<u8> {
+    pub fn replace<T: AsRef<H>>(&self, haystack: &H, texts: &[T]) -> H::Owned {
+        let haystack = haystack.bytes();
         let (mut bytes, mut ends) = (Vec::new(), Vec::new());
         for text in texts {
-            bytes.extend_from_slice(text.as_ref());
+            bytes.extend_from_slice(text.as_ref().bytes());
             ends.push(bytes.len());
         }
         let mut out = vec![0; haystack.len()];
@@ -240,7 +334,7 @@ impl Automaton {
             });
             out.resize(size, 0);
             if answer != Refusal::NoRoom as u32 {
-                return out;
+                return H::of(out);
             }
         }
     }
@@ -251,7 +345,7 @@ impl Automaton {
     /// # Errors
     ///
     /// The automaton is not standard ([`Refusal::WrongKind`]), or an allocation failed.
-    pub fn stream(&self, overlapping: bool) -> Result<Stream, Refusal> {
+    pub fn stream(&self, overlapping: bool) -> Result<Stream<H>, Refusal> {
         Stream::new(&self.handles, if overlapping { Overlapping } else { Find })
     }
 
@@ -260,7 +354,7 @@ impl Automaton {
     /// # Errors
     ///
     /// As of [`Automaton::stream`].
-    pub fn no_suffix_stream(&self) -> Result<Stream, Refusal> {
+    pub fn no_suffix_stream(&self) -> Result<Stream<H>, Refusal> {
         Stream::new(&self.handles, NoSuffix)
     }
 
@@ -270,28 +364,84 @@ impl Automaton {
     /// # Errors
     ///
     /// The automaton is standard ([`Refusal::WrongKind`]), or an allocation failed.
-    pub fn leftmost_stream(&self) -> Result<Stream, Refusal> {
+    pub fn leftmost_stream(&self) -> Result<Stream<H>, Refusal> {
         Stream::new(&self.handles, Leftmost)
     }
 
-    pub(crate) fn of(handle: Handle, longest: usize) -> Automaton {
+    pub(crate) fn of(handle: Handle, longest: usize) -> Self {
         Automaton {
             handles: Arc::new(Handles::new(handle)),
             longest,
+            of: PhantomData,
         }
     }
 
-    fn overlapping<'h>(&self, search: Search, haystack: &'h [u8]) -> Result<Matches<'h>, Refusal> {
-        Matches::new(&self.handles, search, haystack, Some(self.longest))
+    fn read_over(bytes: &[u8]) -> Result<(Self, &[u8]), Refusal> {
+        let mut handle = Handle::empty();
+        let mut taken = 0;
+        done(unsafe {
+            let unit = u32::from(H::IS_TEXT);
+            daachorse_read_with(&mut handle, unit, bytes.as_ptr(), bytes.len(), &mut taken)
+        })?;
+        let longest = longest_pattern::<H>(bytes);
+        Ok((Automaton::of(handle, longest), &bytes[taken..]))
+    }
+
+    fn kind_and_case(&self) -> (u32, bool) {
+        let (mut kind, mut folds) = (0, false);
+        // The handle has an automaton, and nothing else is refused.
+        let _done = self
+            .handles
+            .with(|handle| unsafe { daachorse_kind(handle, &mut kind, &mut folds) });
+        (kind, folds)
+    }
+
+    fn find_on<'h>(&self, haystack: &'h H, serves: bool) -> Result<Matches<'h>, Refusal> {
+        if !serves {
+            return Err(Refusal::WrongKind);
+        }
+        let going_on = GoingOn::From(Place::default());
+        Matches::new(&self.handles, haystack.bytes(), going_on)
+    }
+
+    fn overlapping<'h>(&self, search: Search, haystack: &'h H) -> Result<Matches<'h>, Refusal> {
+        let going_on = GoingOn::Again {
+            search,
+            longest: self.longest,
+            in_text: H::IS_TEXT,
+        };
+        Matches::new(&self.handles, haystack.bytes(), going_on)
+    }
+
+    fn look_up(&self, search: Search, text: &H) -> Vec<Match> {
+        let text = text.bytes();
+        let mut out = vec![NO_MATCH; 8];
+        loop {
+            let mut written = 0;
+            // The handle has an automaton, and nothing else is refused.
+            let _done = self.handles.with(|handle| unsafe {
+                let (room, len) = (out.as_mut_ptr(), out.len());
+                search(handle, text.as_ptr(), text.len(), room, len, &mut written)
+            });
+            if written < out.len() {
+                out.truncate(written);
+                return out;
+            }
+            out.resize(2 * written, NO_MATCH);
+        }
     }
 }
 
 /// The patterns that end at each of `ends` in the bytes, each with its value.
-fn patterns_in(bytes: &[u8], ends: &[usize], values: &[u32]) -> Vec<(Vec<u8>, u32)> {
+fn patterns_in<H: Haystack + ?Sized>(
+    bytes: &[u8],
+    ends: &[usize],
+    values: &[u32],
+) -> Vec<(H::Owned, u32)> {
     let mut start = 0;
     let mut patterns = Vec::with_capacity(ends.len());
     for (&end, &value) in ends.iter().zip(values) {
-        patterns.push((bytes[start..end].to_vec(), value));
+        patterns.push((H::of(bytes[start..end].to_vec()), value));
         start = end;
     }
     patterns

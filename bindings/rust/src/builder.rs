@@ -1,7 +1,8 @@
 //! Builds of automata.
 
 use crate::automaton::Automaton;
-use crate::library::{daachorse_build, Handle};
+use crate::haystack::Haystack;
+use crate::library::{daachorse_build_with, Handle, Options};
 use crate::refusal::{done, Refusal};
 
 /// The kinds of automata, by the searches that they serve.
@@ -13,6 +14,11 @@ pub enum Kind {
     LeftmostLongest = 1,
     /// [`Automaton::leftmost_find`], with the earliest pattern at a start.
     LeftmostFirst = 2,
+}
+
+impl Kind {
+    /// The kinds by their numbers.
+    pub(crate) const ALL: [Kind; 3] = [Kind::Standard, Kind::LeftmostLongest, Kind::LeftmostFirst];
 }
 
 /// Settings of a build. By default the kind is standard, the prefilter is on, and case matters.
@@ -72,10 +78,11 @@ impl Builder {
     /// # Errors
     ///
     /// The library refuses the patterns, or an allocation failed.
-    pub fn build<'p, P: IntoIterator<Item = &'p [u8]>>(
-        self,
-        patterns: P,
-    ) -> Result<Automaton, Refusal> {
+    pub fn build<'p, H, P>(self, patterns: P) -> Result<Automaton<H>, Refusal>
+    where
+        H: Haystack + ?Sized + 'p,
+        P: IntoIterator<Item = &'p H>,
+    {
         self.build_with_values(patterns.into_iter().zip(0..))
     }
 
@@ -84,25 +91,25 @@ impl Builder {
     /// # Errors
     ///
     /// The library refuses the patterns, or an allocation failed.
-    pub fn build_with_values<'p, P: IntoIterator<Item = (&'p [u8], u32)>>(
-        self,
-        patvals: P,
-    ) -> Result<Automaton, Refusal> {
+    pub fn build_with_values<'p, H, P>(self, patvals: P) -> Result<Automaton<H>, Refusal>
+    where
+        H: Haystack + ?Sized + 'p,
+        P: IntoIterator<Item = (&'p H, u32)>,
+    {
         let (mut bytes, mut ends, mut values) = (Vec::new(), Vec::new(), Vec::new());
         let mut longest = 0;
         for (pattern, value) in patvals {
-            longest = longest.max(pattern.len());
-            bytes.extend_from_slice(pattern);
+            longest = longest.max(pattern.bytes().len());
+            bytes.extend_from_slice(pattern.bytes());
             ends.push(bytes.len());
             values.push(value);
         }
+        let options = self.options(H::IS_TEXT);
         let mut handle = Handle::empty();
         done(unsafe {
-            daachorse_build(
+            daachorse_build_with(
                 &mut handle,
-                self.kind as u32,
-                self.use_prefilter,
-                self.ascii_case_insensitive,
+                &options,
                 bytes.as_ptr(),
                 bytes.len(),
                 ends.as_ptr(),
@@ -112,5 +119,15 @@ impl Builder {
             )
         })?;
         Ok(Automaton::of(handle, longest))
+    }
+
+    fn options(self, in_text: bool) -> Options {
+        Options {
+            kind: self.kind as u32,
+            no_prefilter: u32::from(!self.use_prefilter),
+            ascii_case_insensitive: u32::from(self.ascii_case_insensitive),
+            unit: u32::from(in_text),
+            spare: [0; 4],
+        }
     }
 }

@@ -1,12 +1,12 @@
 //! What a written form says of its automaton.
 
+use crate::haystack::Haystack;
+
 /// No pattern of the automaton that was read from this form has more bytes.
-pub(crate) fn longest_pattern(form: &[u8]) -> usize {
-    let mut at = 0;
-    // Elements of the standard searches and of the leftmost ones, and their links.
-    for size in [12, 8, 4] {
-        at += 4 + size * number(&form[at..]);
-    }
+pub(crate) fn longest_pattern<H: Haystack + ?Sized>(form: &[u8]) -> usize {
+    let (sizes, between) = H::LISTS;
+    let lists = |at: usize, size: &usize| at + 4 + size * number(&form[at..]);
+    let at = sizes.iter().fold(0, lists) + between;
     let outputs = &form[at + 4..][..12 * number(&form[at..])];
     let lengths = outputs.chunks_exact(12).map(|output| number(&output[4..]));
     lengths.max().unwrap_or(0)

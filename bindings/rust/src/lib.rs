@@ -1,4 +1,4 @@
-//! Many patterns searched at once in bytes, by the proved library for C.
+//! Many patterns searched at once in bytes or in the characters of text, by the proved library for C.
 //!
 //! ```
 //! use daachorse_c::{Automaton, Kind};
@@ -14,13 +14,15 @@ mod automaton;
 mod builder;
 mod form;
 mod handles;
+mod haystack;
 mod library;
 mod matches;
 mod refusal;
 mod stream;
 
-pub use automaton::Automaton;
+pub use automaton::{Automaton, Counts};
 pub use builder::{Builder, Kind};
+pub use haystack::Haystack;
 pub use matches::{Match, Matches};
 pub use refusal::Refusal;
 pub use stream::Stream;

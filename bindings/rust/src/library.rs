@@ -1,7 +1,7 @@
 //! The calls of the library for C.
 
 use crate::refusal::{done, Refusal};
-use crate::Match;
+use crate::{Counts, Match};
 use std::ffi::c_void;
 use std::ptr;
 
@@ -35,15 +35,32 @@ impl Drop for Handle {
     }
 }
 
+/// The options of a build.
+#[repr(C)]
+pub(crate) struct Options {
+    pub kind: u32,
+    pub no_prefilter: u32,
+    pub ascii_case_insensitive: u32,
+    pub unit: u32,
+    pub spare: [u32; 4],
+}
+
+/// Where a search goes on: at first at the beginning of its haystack.
+#[repr(C)]
+#[derive(Clone, Copy, Default)]
+pub(crate) struct Place {
+    at: usize,
+    after: bool,
+    over: bool,
+}
+
 pub(crate) type Search =
     unsafe extern "C" fn(*mut Handle, *const u8, usize, *mut Match, usize, *mut usize) -> u32;
 
 extern "C" {
-    pub(crate) fn daachorse_build(
+    pub(crate) fn daachorse_build_with(
         handle: *mut Handle,
-        kind: u32,
-        use_prefilter: bool,
-        ascii_case_insensitive: bool,
+        options: *const Options,
         bytes: *const u8,
         bytes_len: usize,
         ends: *const usize,
@@ -51,10 +68,13 @@ extern "C" {
         values: *const u32,
         values_len: usize,
     ) -> u32;
-    pub(crate) fn daachorse_find(
+    pub(crate) fn daachorse_kind(handle: *mut Handle, kind: *mut u32, folds: *mut bool) -> u32;
+    pub(crate) fn daachorse_count(handle: *mut Handle, counts: *mut Counts) -> u32;
+    pub(crate) fn daachorse_find_on(
         handle: *mut Handle,
         haystack: *const u8,
         len: usize,
+        place: *mut Place,
         out: *mut Match,
         room: usize,
         written: *mut usize,
@@ -75,9 +95,17 @@ extern "C" {
         room: usize,
         written: *mut usize,
     ) -> u32;
-    pub(crate) fn daachorse_leftmost_find(
+    pub(crate) fn daachorse_get(
         handle: *mut Handle,
-        haystack: *const u8,
+        text: *const u8,
+        len: usize,
+        out: *mut Match,
+        room: usize,
+        written: *mut usize,
+    ) -> u32;
+    pub(crate) fn daachorse_common_prefixes(
+        handle: *mut Handle,
+        text: *const u8,
         len: usize,
         out: *mut Match,
         room: usize,
@@ -131,8 +159,9 @@ extern "C" {
     ) -> u32;
     pub(crate) fn daachorse_share(handle: *mut Handle, other: *mut Handle) -> u32;
     pub(crate) fn daachorse_accelerate(handle: *mut Handle, other: *mut Handle) -> u32;
-    pub(crate) fn daachorse_read(
+    pub(crate) fn daachorse_read_with(
         handle: *mut Handle,
+        unit: u32,
         bytes: *const u8,
         len: usize,
         taken: *mut usize,

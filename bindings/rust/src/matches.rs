@@ -1,7 +1,7 @@
 //! Matches, and searches that go on as these are asked for.
 
 use crate::handles::Handles;
-use crate::library::Search;
+use crate::library::{daachorse_find_on, Place, Search};
 use crate::refusal::{done, Refusal};
 use std::iter::FusedIterator;
 use std::sync::Arc;
@@ -27,6 +27,19 @@ pub(crate) const NO_MATCH: Match = Match {
 const FIRST_ROOM: usize = 64;
 const ROOM: usize = 1 << 16;
 
+/// How a search goes on behind matches that filled the room.
+pub(crate) enum GoingOn {
+    /// From the place where the last call left off.
+    From(Place),
+    /// Again, from before the end of the last match by as many bytes as a pattern has at most. If
+    /// `in_text`, it begins at a character.
+    Again {
+        search: Search,
+        longest: usize,
+        in_text: bool,
+    },
+}
+
 /// The matches of a search. The haystack is searched as they are asked for.
 ///
 /// ```
@@ -41,16 +54,13 @@ const ROOM: usize = 1 << 16;
 /// ```
 pub struct Matches<'h> {
     handles: Arc<Handles>,
-    search: Search,
     haystack: &'h [u8],
-    // If matches may overlap, the most bytes of one.
-    longest: Option<usize>,
-    // Where the last call began.
-    place: usize,
-    // What it wrote, in front of what it had room for. Of these so many were given before the call,
-    // and so many are by now.
+    going_on: GoingOn,
+    // What the last call wrote, in front of what it had room for, with places from `begin` on.
     room: Vec<Match>,
     written: usize,
+    begin: usize,
+    // So many of it were given before that call, and so many are by now.
     told: usize,
     given: usize,
 }
@@ -58,18 +68,16 @@ pub struct Matches<'h> {
 impl<'h> Matches<'h> {
     pub(crate) fn new(
         handles: &Arc<Handles>,
-        search: Search,
         haystack: &'h [u8],
-        longest: Option<usize>,
+        going_on: GoingOn,
     ) -> Result<Matches<'h>, Refusal> {
         let mut matches = Matches {
             handles: Arc::clone(handles),
-            search,
             haystack,
-            longest,
-            place: 0,
+            going_on,
             room: vec![NO_MATCH; FIRST_ROOM],
             written: 0,
+            begin: 0,
             told: 0,
             given: 0,
         };
@@ -77,14 +85,20 @@ impl<'h> Matches<'h> {
         Ok(matches)
     }
 
-    /// Writes the first matches in the haystack from the place on.
+    /// Writes the next matches, or those from `begin` on if the search is done again.
     fn fill(&mut self) -> Result<(), Refusal> {
-        let rest = &self.haystack[self.place..];
-        let (room, written) = (&mut self.room, &mut self.written);
-        let search = self.search;
-        done(self.handles.with(|handle| unsafe {
-            let (out, out_len) = (room.as_mut_ptr(), room.len());
-            search(handle, rest.as_ptr(), rest.len(), out, out_len, written)
+        let (haystack, room, written) = (self.haystack, &mut self.room, &mut self.written);
+        let (out, out_len) = (room.as_mut_ptr(), room.len());
+        let rest = &haystack[self.begin..];
+        let going_on = &mut self.going_on;
+        done(self.handles.with(|handle| match going_on {
+            GoingOn::From(place) => unsafe {
+                let (at, len) = (haystack.as_ptr(), haystack.len());
+                daachorse_find_on(handle, at, len, place, out, out_len, written)
+            },
+            GoingOn::Again { search, .. } => unsafe {
+                search(handle, rest.as_ptr(), rest.len(), out, out_len, written)
+            },
         }))
     }
 
@@ -92,42 +106,41 @@ impl<'h> Matches<'h> {
     fn go_on(&mut self) {
         // At least half of the room is for new matches.
         if self.room.len() < ROOM || 2 * self.told > self.room.len() {
-            self.room.resize(2 * self.room.len(), NO_MATCH);
+            let len = 2 * self.room.len();
+            self.room.resize(len, NO_MATCH);
         }
-        self.told = match self.longest {
-            Some(longest) => self.go_on_before(longest),
-            None => self.go_on_behind(),
+        self.told = match self.going_on {
+            GoingOn::From(_) => {
+                self.refill();
+                0
+            }
+            GoingOn::Again {
+                longest, in_text, ..
+            } => self.search_again(longest, in_text),
         };
         self.given = self.told;
     }
 
-    /// Searches from the last match on, and returns how many of the first matches are none. What
-    /// follows a match is found behind it, but that an empty one does not follow a nonempty one.
-    fn go_on_behind(&mut self) -> usize {
-        let last = self.room[self.written - 1];
-        let is_empty = last.start == last.end;
-        self.place += last.end + usize::from(is_empty);
-        if self.place > self.haystack.len() {
-            self.written = 0;
-            return 0;
-        }
-        self.refill();
-        usize::from(!is_empty && self.written > 0 && self.room[0].end == 0)
-    }
-
-    /// Searches from the longest pattern before the last end on, and returns how many matches were
-    /// given before.
-    fn go_on_before(&mut self, longest: usize) -> usize {
+    /// Searches again, and returns how many matches were given before.
+    fn search_again(&mut self, longest: usize, in_text: bool) -> usize {
         let told = &self.room[..self.written];
         let last = told[told.len() - 1].end;
         let ends_there = |found: &&Match| found.end == last;
         let here = told.iter().rev().take_while(ends_there).count();
-        let end = self.place + last;
-        self.place = end.saturating_sub(longest);
+        let end = self.begin + last;
+        self.begin = end.saturating_sub(longest);
+        while in_text && self.is_inside_character(self.begin) {
+            self.begin -= 1;
+        }
         self.refill();
         let told = &self.room[..self.written];
-        let ends_before = |found: &&Match| found.end + self.place < end;
+        let ends_before = |found: &&Match| found.end + self.begin < end;
         told.iter().take_while(ends_before).count() + here
+    }
+
+    /// Whether a byte of UTF-8 stands there that begins no character.
+    fn is_inside_character(&self, place: usize) -> bool {
+        matches!(self.haystack.get(place), Some(0x80..=0xbf))
     }
 
     /// Fills the room. What was not refused before is not refused now.
@@ -151,8 +164,8 @@ impl Iterator for Matches<'_> {
         let found = self.room[self.given];
         self.given += 1;
         Some(Match {
-            start: found.start + self.place,
-            end: found.end + self.place,
+            start: found.start + self.begin,
+            end: found.end + self.begin,
             value: found.value,
         })
     }

@@ -34,13 +34,13 @@ pub enum Refusal {
     StreamTooLong = 13,
     /// An option of a build has no such value. This crate passes none such.
     UnknownOption = 14,
-    /// A search would go on behind the haystack. This crate asks for none such.
+    /// A search would go on behind the haystack, or in a character. This crate asks for none such.
     WrongPlace = 15,
     /// No search of a stream has the number. This crate passes none but those of its streams.
     UnknownSearch = 16,
     /// A stream takes no bytes after its end. This crate passes none.
     StreamEnded = 17,
-    /// The automaton is over characters, and bytes are no UTF-8. This crate builds none such.
+    /// The automaton is over characters, and bytes are no UTF-8. This crate passes none such.
     InvalidUtf8 = 18,
 }
 

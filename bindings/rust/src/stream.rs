@@ -1,9 +1,11 @@
 //! Streams.
 
 use crate::handles::Handles;
+use crate::haystack::Haystack;
 use crate::library::{daachorse_begin, daachorse_consume, daachorse_end, Handle};
 use crate::matches::{Match, NO_MATCH};
 use crate::refusal::{done, Refusal};
+use std::marker::PhantomData;
 
 /// The searches of streams.
 #[derive(Clone, Copy)]
@@ -15,15 +17,19 @@ pub(crate) enum Search {
 }
 
 /// A stream: a haystack that comes in pieces. Offsets count from its beginning.
-pub struct Stream {
+pub struct Stream<H: ?Sized = [u8]> {
     handle: Handle,
+    of: PhantomData<fn(&H)>,
 }
 
-impl Stream {
-    pub(crate) fn new(handles: &Handles, search: Search) -> Result<Stream, Refusal> {
+impl<H: Haystack + ?Sized> Stream<H> {
+    pub(crate) fn new(handles: &Handles, search: Search) -> Result<Stream<H>, Refusal> {
         let mut handle = handles.share()?;
         done(unsafe { daachorse_begin(&mut handle, search as u32) })?;
-        Ok(Stream { handle })
+        Ok(Stream {
+            handle,
+            of: PhantomData,
+        })
     }
 
     /// Feeds the next piece, and returns the matches that end in it, or of a leftmost stream those
@@ -42,7 +48,32 @@ impl Stream {
     /// # Errors
     ///
     /// An offset or the number of matches would pass a `usize`.
-    pub fn feed(&mut self, mut piece: &[u8]) -> Result<Vec<Match>, Refusal> {
+    pub fn feed(&mut self, piece: &H) -> Result<Vec<Match>, Refusal> {
+        self.consume(piece.bytes())
+    }
+
+    /// Ends the haystack, and returns the matches that are left: only leftmost ones can be.
+    ///
+    /// ```
+    /// use daachorse_c::{Automaton, Kind};
+    ///
+    /// let patterns: [&[u8]; 2] = [b"ab", b"abcd"];
+    /// let automaton = Automaton::new(Kind::LeftmostLongest, true, patterns)?;
+    /// let mut stream = automaton.leftmost_stream()?;
+    /// assert!(stream.feed(b"xabc")?.is_empty());
+    /// assert_eq!(stream.finish()?[0].end, 3);
+    /// # Ok::<(), daachorse_c::Refusal>(())
+    /// ```
+    ///
+    /// # Errors
+    ///
+    /// The number of matches would pass a `usize`.
+    pub fn finish(mut self) -> Result<Vec<Match>, Refusal> {
+        done(unsafe { daachorse_end(&mut self.handle) })?;
+        self.consume(b"")
+    }
+
+    fn consume(&mut self, mut piece: &[u8]) -> Result<Vec<Match>, Refusal> {
         let mut matches = Vec::new();
         let mut room = [NO_MATCH; 64];
         loop {
@@ -64,26 +95,5 @@ impl Stream {
                 return Ok(matches);
             }
         }
-    }
-
-    /// Ends the haystack, and returns the matches that are left: only leftmost ones can be.
-    ///
-    /// ```
-    /// use daachorse_c::{Automaton, Kind};
-    ///
-    /// let patterns: [&[u8]; 2] = [b"ab", b"abcd"];
-    /// let automaton = Automaton::new(Kind::LeftmostLongest, true, patterns)?;
-    /// let mut stream = automaton.leftmost_stream()?;
-    /// assert!(stream.feed(b"xabc")?.is_empty());
-    /// assert_eq!(stream.finish()?[0].end, 3);
-    /// # Ok::<(), daachorse_c::Refusal>(())
-    /// ```
-    ///
-    /// # Errors
-    ///
-    /// The number of matches would pass a `usize`.
-    pub fn finish(mut self) -> Result<Vec<Match>, Refusal> {
-        done(unsafe { daachorse_end(&mut self.handle) })?;
-        self.feed(b"")
     }
 }

@@ -1,6 +1,6 @@
 //! Tests of the crate, by hand and over the table bindings/rows.
 
-use daachorse_c::{Automaton, Builder, Kind, Match, Refusal};
+use daachorse_c::{Automaton, Builder, Counts, Kind, Match, Refusal};
 
 const PATTERNS: [&[u8]; 4] = [b"ab", b"abcd", b"bc", b"cd"];
 
@@ -212,6 +212,104 @@ fn matches_behind_a_full_room_are_those_of_the_whole() {
             );
         }
     }
+}
+
+#[test]
+fn texts_are_searched_by_characters() {
+    let standard = Automaton::new(Kind::Standard, true, ["世界", "に", "界"]).unwrap();
+    let haystack = "世界中に";
+    let wanted = [(0, 6, 0), (9, 12, 1)];
+    assert_eq!(triples(standard.find(haystack)), wanted);
+    assert_eq!(
+        triples(standard.find_overlapping(haystack)),
+        [(0, 6, 0), (3, 6, 2), (9, 12, 1)]
+    );
+    assert_eq!(
+        triples(standard.find_overlapping_no_suffix(haystack)),
+        wanted
+    );
+    assert_eq!(
+        triples(standard.accelerate().unwrap().find(haystack)),
+        wanted
+    );
+    assert!(standard.is_match("中に") && !standard.is_match("中"));
+    assert_eq!(standard.replace(haystack, &["W", "n"]), "W中n");
+    let listed = [("に", 1), ("世界", 0), ("界", 2)];
+    let listed: Vec<_> = listed.map(|(text, value)| (text.to_string(), value)).into();
+    assert_eq!(standard.patterns().unwrap(), listed);
+    let mut stream = standard.stream(false).unwrap();
+    assert_eq!(triples(stream.feed("世")), []);
+    assert_eq!(triples(stream.feed("界中に")), wanted);
+    assert_eq!(triples(stream.finish()), []);
+    let mut written = standard.write().unwrap();
+    written.push(42);
+    let (read, rest) = Automaton::read_text(&written).unwrap();
+    assert_eq!(
+        (triples(read.find(haystack)), rest),
+        (wanted.into(), &[42][..])
+    );
+    let refused = Automaton::read_text(b"text").err();
+    assert_eq!(refused, Some(Refusal::InvalidAutomaton));
+    for (kind, wanted) in [
+        (Kind::LeftmostLongest, [(0, 3, 1), (3, 6, 2)]),
+        (Kind::LeftmostFirst, [(0, 2, 0), (3, 6, 2)]),
+    ] {
+        let automaton = Builder::new().kind(kind).build(["é", "éa", "ñb"]).unwrap();
+        assert_eq!(triples(automaton.leftmost_find("éañb")), wanted);
+        assert_eq!(automaton.find("é").err(), Some(Refusal::WrongKind));
+        assert_eq!(automaton.kind(), kind);
+    }
+    let empty = Automaton::new(Kind::Standard, true, [""]).unwrap();
+    assert_eq!(triples(empty.find("aé")), [(0, 0, 0), (1, 1, 0), (3, 3, 0)]);
+}
+
+#[test]
+fn what_is_behind_a_full_room_of_texts_is_found() {
+    let haystack = "éèéé界界a".repeat(400);
+    let patterns = ["é", "éè", "界界aé", "èéé界", "a"];
+    let standard = Automaton::new(Kind::Standard, true, patterns).unwrap();
+    let (read, _) = Automaton::read_text(&standard.write().unwrap())
+        .map(|(read, rest)| (read, rest.len()))
+        .unwrap();
+    for automaton in [standard, read] {
+        let told = |overlapping| triples(automaton.stream(overlapping).unwrap().feed(&haystack));
+        assert_eq!(triples(automaton.find(&haystack)), told(false));
+        let mut all = told(true);
+        assert_eq!(triples(automaton.find_overlapping(&haystack)), all);
+        all.dedup_by_key(|found| found.1);
+        let longest = automaton.find_overlapping_no_suffix(&haystack);
+        assert_eq!(triples(longest), all);
+    }
+    let build = |kind| Automaton::new(kind, true, patterns).unwrap();
+    let found = triples(build(Kind::LeftmostLongest).leftmost_find(&haystack));
+    let mut stream = build(Kind::LeftmostLongest).leftmost_stream().unwrap();
+    let mut told = triples(stream.feed(&haystack));
+    told.extend(triples(stream.finish()));
+    assert_eq!(found, told);
+}
+
+#[test]
+fn patterns_are_looked_up_and_counted() {
+    let patterns: [&[u8]; 4] = [b"ab", b"a", b"ab", b""];
+    for kind in [Kind::Standard, Kind::LeftmostLongest] {
+        let automaton = Automaton::new(kind, true, patterns).unwrap();
+        let values = |found: Vec<Match>| -> Vec<_> { found.iter().map(|it| it.value).collect() };
+        assert_eq!(values(automaton.get(b"ab")), [0, 2]);
+        assert_eq!(values(automaton.get(b"b")), []);
+        assert_eq!(values(automaton.common_prefixes(b"abc")), [3, 1, 0, 2]);
+        let size = automaton.write().unwrap().len();
+        let wanted = Counts {
+            patterns: 4,
+            states: 3,
+            size,
+            longest: 2,
+        };
+        assert_eq!(automaton.counts(), Ok(wanted));
+        assert_eq!(automaton.kind(), kind);
+        assert!(!automaton.is_ascii_case_insensitive());
+    }
+    let many = Automaton::new(Kind::Standard, true, [&b"a"[..]; 100]).unwrap();
+    assert_eq!(many.get(b"a").len(), 100);
 }
 
 #[test]

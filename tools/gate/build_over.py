@@ -24,7 +24,9 @@ if not all(os.path.isdir(it.rlib) and not os.path.exists(f"{os.path.dirname(it.r
 os.makedirs(f"{crate.folder}/out", exist_ok=True)
 toolchain = os.environ.get("TOOLCHAIN", f"{kit}/toolchain")
 made = f"out/{name}.o" if crate.is_program else f"out/lib{name}.a"
-words = crate.words(["--jobs", "1"], keeps=False)
+# After the gate nothing else runs.
+jobs = min(4, len(os.sched_getaffinity(0)))
+words = crate.words(["--jobs", str(jobs)], keeps=False)
 failed = crate.call(rtlib.RATTLE, "build", *words, "--toolchain", toolchain, "--backend", "llvm", "-o", made)
 if not failed and crate.is_program:
     words = ["--target", "x86_64-unknown-linux-gnu", "--toolchain", toolchain, "-o", f"out/{name}", made]

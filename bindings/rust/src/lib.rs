@@ -1,4 +1,4 @@
-//! Many patterns searched at once in bytes or in the characters of text, by the proved library for C.
+//! Many patterns searched at once in bytes or in characters, by the proved library for C.
 //!
 //! ```
 //! use daachorse_c::{Automaton, Kind};

@@ -38,3 +38,4 @@ pub mod ClimbLaws
 pub mod MachineTrees
 pub mod MachineListings
 pub mod DescentLaws
+pub mod MarkLaws

@@ -17,3 +17,4 @@ pub mod Listing
 pub mod EqualOutputs
 pub mod Lookups
 pub mod Descents
+pub mod Marks

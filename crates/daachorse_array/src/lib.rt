@@ -11,6 +11,7 @@ pub mod climbs;
 pub mod depths;
 pub mod longest;
 pub mod lookup;
+pub mod marks;
 pub mod patterns;
 pub mod prefixes;
 pub mod siblings;

@@ -27,6 +27,10 @@ module _ {V : Type 0} (K : Dictionary V) where
   abbrev pub IsPrefix : List ℕ → Type 0
   IsPrefix w = (w ≡ []) ⊎ ((x : List ℕ) × IsKey (w ++ x))
 
+  -- with some unit behind it w begins a key
+  abbrev pub HasChild : List ℕ → Type 0
+  HasChild w = (u : ℕ) × IsPrefix (w ++ u ∷ [])
+
   -- exactly n texts are prefixes of keys
   pub record HasPrefixes (n : ℕ) : Type 0 where
     pub texts : List (List ℕ)

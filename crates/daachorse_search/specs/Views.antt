@@ -1,11 +1,12 @@
 -- What a search sees of an automaton: its states and their texts, its links, and its outputs. The words below say of one view what the contracts ask of it.
-use Rattle.std.specs.Prelude.{◌≡◌, ℕ, Bool, List, [], Option}
+use Rattle.std.specs.Prelude.{◌≡◌, ◌↔◌, ℕ, Bool, IsTrue, List, [], Option, Some, slice_get}
 use Rattle.std.specs.declared.num.NonZeroU32.{NonZeroU32}
 use Rattle.daachorse_core.specs.declared.turns.Look.{Look}
 use Rattle.daachorse_core.specs.Depths.{AreDepths}
 use Rattle.daachorse_core.specs.Looks.{IsFirstOutput, LookGives, StepEnds, TellsOutput}
 use Rattle.daachorse_model.specs.Best.{IsLeftmost}
 use Rattle.daachorse_model.specs.Dictionary.{Dictionary}
+use Rattle.daachorse_model.specs.Prefixes.{HasChild}
 
 pub record AutomatonView (V : Type 0) : Type 1 where
   -- the dictionary: the values of each text, in order
@@ -47,6 +48,10 @@ module _ {V : Type 0} (view : AutomatonView V) where
   -- no depths are kept, or those of all states that can be reached
   abbrev pub HasDepths : List ℕ → Type 0
   HasDepths depths = AreDepths view.reached view.text depths
+
+  -- the marks say of each state that can be reached whether its text has a child
+  abbrev pub HasMarks : List Bool → Type 0
+  HasMarks marks = (state : ℕ) → view.reached state → (mark : Bool) × (slice_get marks state ≡ Some mark) × (IsTrue mark ↔ HasChild view.content (view.text state))
 
   -- from position 0 on there is no output
   abbrev pub HasNone : Type 0

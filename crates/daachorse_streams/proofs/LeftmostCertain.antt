@@ -5,7 +5,7 @@ use Rattle.std.proofs.lemmas.Nat.{mul-le}
 use Rattle.daachorse_model.specs.declared.Match.{Match}
 use Rattle.daachorse_model.specs.Units.{size}
 use Rattle.daachorse_model.specs.Dictionary.{Dictionary}
-use Rattle.daachorse_model.specs.Prefixes.{IsSuffix, IsKey, IsPrefix, Occurs}
+use Rattle.daachorse_model.specs.Prefixes.{IsSuffix, IsKey, IsPrefix, Occurs, HasChild}
 use Rattle.daachorse_model.specs.Leftmost.{longest_key, leftmost_from}
 use Rattle.daachorse_model.specs.Best.{IsBest, IsBestSoFar, IsSteady, NoneStarts}
 use Rattle.daachorse_model.proofs.Suffixes.{le_or_lt, size-append, IsSuffix-of_longer, IsSuffix-as_long}
@@ -14,7 +14,6 @@ use Rattle.daachorse_model.proofs.Lists.{nil_of}
 use Rattle.daachorse_model.proofs.Links.{none_before}
 use Rattle.daachorse_model.proofs.Occurrences.{split_after, occurs_length, occurs_more}
 use Rattle.daachorse_model.proofs.BestMatches.{leftmost_from-clear, leftmost_from-key, leftmost_from-empty, leftmost_from-last, leftmost_from-none, longest-best, none_starts-best}
-use Rattle.daachorse_streams.specs.Children.{HasChild}
 
 -- a text with a key behind it, whose first unit goes on to it
 child_of : {V : Type 0} (K : Dictionary V) (d x : List ℕ) → IsKey K (d ++ x) → 0 < length x → HasChild K d

@@ -6,7 +6,6 @@ pub mod StreamLaws
 pub mod PassingLaws
 pub mod ReadingLaws
 pub mod AdvancingLaws
-pub mod MarkLaws
 pub mod LateMatches
 pub mod GoesOutLaws
 pub mod ReplacingLaws

@@ -7,20 +7,24 @@ use Rattle.std.proofs.lemmas.List.{append_cancel_left}
 use Rattle.std.proofs.lemmas.Option.{slice_get_within, get_or_from_slice_get}
 use Rattle.daachorse_model.specs.Units.{size}
 use Rattle.daachorse_model.specs.Outputs.{IsChain}
-use Rattle.daachorse_model.specs.Prefixes.{IsPrefix}
+use Rattle.daachorse_model.specs.Prefixes.{HasChild, IsPrefix}
 use Rattle.daachorse_model.specs.Best.{IsBest, IsBestSoFar, IsSteady, LeftSteps}
 use Rattle.daachorse_model.proofs.Suffixes.{size-append, size-push}
 use Rattle.daachorse_model.proofs.Links.{none_before}
 use Rattle.daachorse_model.proofs.BestLaws.{IsSteady-nil, Told-IsSteady, IsBestSoFar-keeps}
 use Rattle.daachorse_search.specs.BestScans.{HasNoLongerKey}
-use Rattle.daachorse_search.specs.Views.{AutomatonView, HasFirst, IsLeftmostView}
+use Rattle.daachorse_model.specs.Dictionary.{Dictionary}
+use Rattle.daachorse_search.specs.Views.{AutomatonView, HasFirst, HasMarks, IsLeftmostView}
 use Rattle.daachorse_search.proofs.BestScanLaws.{IsFound-new, IsFound-none, steady_none, steady_of}
 use Rattle.daachorse_search.proofs.LeftmostLaws.{nil_from_size}
 use Rattle.daachorse_streams.specs.declared.scan.Pending.{Pending}
 use Rattle.daachorse_streams.specs.declared.scan.Scan.{Scan}
-use Rattle.daachorse_streams.specs.Children.{HasMarks, Leaf}
 use Rattle.daachorse_streams.specs.Scans.{IsPending, IsPendingSoFar, IsScan}
 use Rattle.daachorse_streams.proofs.LeftmostCertain.{IsBest-at_leaf}
+
+-- whether the text has no child
+abbrev Leaf : {V : Type 0} → Dictionary V → List ℕ → Bool → Type 0
+Leaf K t leaf = (leaf ≡ true → ¬ HasChild K t) × (leaf ≡ false → HasChild K t)
 
 module _ {V : Type 0} (view : AutomatonView V) (marks : List Bool) (marked : HasMarks view marks) (state : ℕ) (reached : view.reached state) where
   pub mark_within : state < length marks

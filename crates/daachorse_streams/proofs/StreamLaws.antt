@@ -20,7 +20,7 @@ use Rattle.daachorse_search.specs.Views.{AutomatonView, IsLeftmostView}
 use Rattle.daachorse_streams.specs.declared.scan.Pending.{Pending}
 use Rattle.daachorse_streams.specs.declared.scan.Scan.{Scan}
 use Rattle.daachorse_streams.specs.declared.search.Search.{Search}
-use Rattle.daachorse_streams.specs.Children.{HasChild}
+use Rattle.daachorse_model.specs.Prefixes.{HasChild}
 use Rattle.daachorse_streams.specs.Scans.{IsPending, IsPendingSoFar, IsScan}
 use Rattle.daachorse_streams.specs.Searching.{IsSearching, Stands, given_of, passed_over, waits}
 use Rattle.daachorse_streams.proofs.GivingLaws.{now}

@@ -3,9 +3,8 @@ use Rattle.std.specs.Prelude.{◌≡◌, ℕ, Bool, false, List, [], Option, Som
 use Rattle.std.specs.declared.io.BufReader.{BufReader}
 use Rattle.daachorse_replacing.specs.Streams.{HasNoLonger}
 use Rattle.daachorse_search.specs.Readers.{IsInBlocks, Reading, to_read}
-use Rattle.daachorse_search.specs.Views.{AutomatonView}
+use Rattle.daachorse_search.specs.Views.{AutomatonView, HasMarks}
 use Rattle.daachorse_streams.specs.declared.stream_marks.StreamMarks.{StreamMarks}
-use Rattle.daachorse_streams.specs.Children.{HasMarks}
 use Rattle.daachorse_streams.specs.LeftmostReading.{LeftmostReading}
 use Rattle.daachorse_streams.specs.Streamed.{LeftmostStreamed}
 

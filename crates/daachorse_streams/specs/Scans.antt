@@ -6,7 +6,7 @@ use Rattle.daachorse_search.specs.BestScans.{HasNoLongerKey, IsOutputOf}
 use Rattle.daachorse_search.specs.Views.{AutomatonView}
 use Rattle.daachorse_streams.specs.declared.scan.Pending.{Pending}
 use Rattle.daachorse_streams.specs.declared.scan.Scan.{Scan}
-use Rattle.daachorse_streams.specs.Children.{HasChild}
+use Rattle.daachorse_model.specs.Prefixes.{HasChild}
 
 module _ {V : Type 0} (width : ℕ → ℕ) (view : AutomatonView V) where
   -- The best in w, which begins at a place, is pending, with the units `behind` after it. Where it is decided it stays the best, whatever follows; else the text t that the scan stands at has a child.

@@ -43,7 +43,7 @@ pub struct LeftmostStream<'a, V: Copy, A: Automaton<V>, ALLOC: Allocator> {
 }
 
 impl<'a, V: Copy, A: Automaton<V>, ALLOC: Allocator> Model for LeftmostStream<'a, V, A, ALLOC> {
-    ghost use Rattle.daachorse_streams.specs.Children.{HasMarks};
+    ghost use Rattle.daachorse_search.specs.Views.{HasMarks};
     ghost use Rattle.daachorse_streams.specs.Searching.{IsSearching};
     ghost use Rattle.daachorse_streams.specs.Standings.{streamed};
     ghost use Rattle.daachorse_streams.specs.Streamed.{LeftmostStreamed};

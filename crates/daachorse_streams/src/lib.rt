@@ -6,7 +6,6 @@ pub mod keep;
 pub mod leftmost_from_reader;
 pub mod leftmost_standing;
 pub mod leftmost_stream;
-pub mod marks;
 pub mod replacing;
 mod scan;
 mod search;

@@ -2,8 +2,7 @@
 //! time.
 
 ghost use Rattle.std.specs.Prelude.{◌≡◌, ◌+◌, ◌<◌, ◌≤◌, ◌^◌, ℕ, false, None, if◌then◌else◌, List, [], ◌∷◌, ◌++◌};
-ghost use Rattle.daachorse_search.specs.Views.{IsLeftmostView};
-ghost use Rattle.daachorse_streams.specs.Children.{HasMarks};
+ghost use Rattle.daachorse_search.specs.Views.{IsLeftmostView, HasMarks};
 ghost use Rattle.daachorse_streams.specs.Scans.{IsScan, depth};
 
 use daachorse_core::edge_label::EdgeLabel;

@@ -4,7 +4,7 @@
 ghost use Rattle.std.specs.Prelude.{◌≡◌, ℕ, ◌+◌, ◌<◌, ◌≤◌, ◌^◌, List, ◌++◌, ◌∷◌, [], ◌⊎◌, None, Some, IfSome, IsTrue, MatchOption, true, false, drop};
 ghost use Rattle.std.specs.VecDeque.{deque_capacity, deque_len};
 ghost use Rattle.daachorse_model.specs.Units.{size};
-ghost use Rattle.daachorse_streams.specs.Children.{HasMarks};
+ghost use Rattle.daachorse_search.specs.Views.{HasMarks};
 ghost use Rattle.daachorse_streams.specs.Searching.{IsAtRoot, IsSearching, Keeps, ReadsTheSame, TakesFront, WalksOn, given_of};
 
 use crate::scan::{Pending, Scan, advance, begin, idle};

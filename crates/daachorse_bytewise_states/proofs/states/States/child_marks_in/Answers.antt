@@ -4,8 +4,8 @@ use Rattle.std.specs.Prelude.{IfOk}
 use Rattle.std.proofs.lemmas.Result.{IfOk-weaker}
 use Rattle.daachorse_model.specs.Kinds.{is_leftmost}
 use Rattle.daachorse_model.specs.Units.{byte_width}
-use Rattle.daachorse_streams.specs.Children.{HasMarks}
-use Rattle.daachorse_streams.proofs.MarkLaws.{marks_tell}
+use Rattle.daachorse_search.specs.Views.{HasMarks}
+use Rattle.daachorse_array.proofs.MarkLaws.{marks_tell}
 use Rattle.daachorse_bytewise_states.specs.Parts.{Parts, count, machine}
 use Rattle.daachorse_bytewise_states.specs.Valid.{sees}
 use Rattle.daachorse_bytewise_states.proofs.ByteLaws.{child_inside, valid_machine}

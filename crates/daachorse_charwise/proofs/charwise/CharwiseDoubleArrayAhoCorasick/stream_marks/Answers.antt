@@ -1,7 +1,7 @@
 -- The marks are those of the states that the automaton keeps.
 use Rattle.std.proofs.Common.{subst}
 use Rattle.daachorse_charwise_states.specs.Valid.{sees}
-use Rattle.daachorse_streams.specs.Children.{HasMarks}
+use Rattle.daachorse_search.specs.Views.{HasMarks}
 use Rattle.daachorse_charwise.specs.Automata.{Automaton}
 use Rattle.daachorse_charwise.proofs.charwise.CharwiseDoubleArrayAhoCorasick.stream_marks.Goals as goal
 

@@ -1,6 +1,6 @@
 -- A search begins with a scan of nothing, and with room for as many units as the longest key has.
 use Rattle.std.proofs.Common.{◌<◌, ◌≤◌, sym, subst, arith}
-use Rattle.daachorse_streams.specs.Children.{HasMarks}
+use Rattle.daachorse_search.specs.Views.{HasMarks}
 use Rattle.daachorse_streams.proofs.StreamLaws.{begun}
 use Rattle.daachorse_streams.proofs.leftmost_stream.LeftmostStream.new.Goals as goal
 use Rattle.daachorse_streams.proofs.leftmost_stream.LeftmostStream.new.Goals.{then-longest-eq0, else-longest-eq0}

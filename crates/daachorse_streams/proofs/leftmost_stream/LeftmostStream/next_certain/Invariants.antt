@@ -1,6 +1,6 @@
 -- A round that gives nothing passes over an empty match, which the next round can't do again, and leaves the matches given as they are.
 use Rattle.std.proofs.Common.{◌≡◌, cond}
-use Rattle.daachorse_streams.specs.Children.{HasMarks}
+use Rattle.daachorse_search.specs.Views.{HasMarks}
 use Rattle.daachorse_streams.specs.Searching.{IsSearching, given_of}
 use Rattle.daachorse_streams.proofs.leftmost_stream.LeftmostStream.next_certain.Given as goal
 

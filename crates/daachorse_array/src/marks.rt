@@ -3,10 +3,10 @@
 ghost use Rattle.std.specs.Prelude.{◌<◌, ◌↔◌, IsTrue, IfOk, IfErr};
 ghost use Rattle.daachorse_core.specs.Refusals.{IsOutOfMemory};
 ghost use Rattle.daachorse_array.specs.Arrays.{AreGroups, HasEdges};
-ghost use Rattle.daachorse_streams.specs.Marks.{AreChildMarks, LeadsOn};
+ghost use Rattle.daachorse_array.specs.Marks.{AreChildMarks, LeadsOn};
 
-use daachorse_array::array::Array;
-use daachorse_array::siblings::Siblings;
+use crate::array::Array;
+use crate::siblings::Siblings;
 use daachorse_core::errors::Result;
 use std::alloc::Allocator;
 

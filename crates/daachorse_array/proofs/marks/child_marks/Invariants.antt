@@ -1,8 +1,8 @@
 -- The elements that were passed have their marks, and there is room for all.
 use Rattle.std.proofs.Common.{◌≤◌}
 use Rattle.std.specs.Prelude.{vec_capacity}
-use Rattle.daachorse_streams.specs.Marks.{AreChildMarks}
-use Rattle.daachorse_streams.proofs.marks.child_marks.Given as goal
+use Rattle.daachorse_array.specs.Marks.{AreChildMarks}
+use Rattle.daachorse_array.proofs.marks.child_marks.Given as goal
 
 abbrev pub invariant-loop-element : goal.invariant-loop-element
 invariant-loop-element g l = record {

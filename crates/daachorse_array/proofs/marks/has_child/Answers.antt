@@ -1,6 +1,6 @@
 -- The element's group has a first member just where the element has a child.
-use Rattle.daachorse_streams.proofs.MarkLaws.{first_tells}
-use Rattle.daachorse_streams.proofs.marks.has_child.Goals as goal
+use Rattle.daachorse_array.proofs.MarkLaws.{first_tells}
+use Rattle.daachorse_array.proofs.marks.has_child.Goals as goal
 
 pub returns-in-Some : goal.returns-in-Some
 returns-in-Some g c =

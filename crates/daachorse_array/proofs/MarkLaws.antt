@@ -15,8 +15,8 @@ use Rattle.daachorse_array.specs.Texts.{IsReached, text_of}
 use Rattle.daachorse_array.proofs.MachineLaws.{Reached-inside, back, fore}
 use Rattle.daachorse_array.proofs.PathLaws.{element_reached, reached_element}
 use Rattle.daachorse_array.proofs.SortLaws.{below-All, below-has, edge-in, in-edge}
-use Rattle.daachorse_streams.specs.Children.{HasChild}
-use Rattle.daachorse_streams.specs.Marks.{AreChildMarks, LeadsOn}
+use Rattle.daachorse_model.specs.Prefixes.{HasChild}
+use Rattle.daachorse_array.specs.Marks.{AreChildMarks, LeadsOn}
 
 module _ (a : ArrayView) (edges : HasEdges a) (i : ℕ) (real : i < a.count) where
   -- an element with no group leads nowhere

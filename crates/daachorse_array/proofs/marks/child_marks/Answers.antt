@@ -1,8 +1,8 @@
 -- Each element is told from its own group, and marked behind the others.
 use Rattle.std.proofs.Common.{◌≡◌, arith, subst, ℕ}
-use Rattle.daachorse_streams.specs.Marks.{AreChildMarks}
-use Rattle.daachorse_streams.proofs.MarkLaws.{marks-start, marks-next}
-use Rattle.daachorse_streams.proofs.marks.child_marks.Goals as goal
+use Rattle.daachorse_array.specs.Marks.{AreChildMarks}
+use Rattle.daachorse_array.proofs.MarkLaws.{marks-start, marks-next}
+use Rattle.daachorse_array.proofs.marks.child_marks.Goals as goal
 
 pub loop-element-init : goal.loop-element-init
 loop-element-init g c = record {

@@ -4,6 +4,7 @@ use Rattle.std.proofs.lemmas.Bool.{cases_lt, false≢true}
 use Rattle.std.proofs.lemmas.List.{drop_at, drop_all, length-take-le, nil_from_length}
 use Rattle.std.proofs.lemmas.Str.{chars-nil, chars-append, encodes-chars, IsUtf8-take, IsUtf8-drop}
 use Rattle.std.proofs.Math.Utf8.{encodes}
+use Rattle.std.specs.Option.{is_some}
 use Rattle.std.specs.Prelude.{IsSome, option_map}
 use Rattle.std.specs.Str.{chars, IsUtf8, IsCharBoundary}
 use Rattle.daachorse_core.specs.CharForms.{char_wide}
@@ -119,3 +120,8 @@ module _ (passes : List ℕ → Bool) where
           let here = seam bs a b at u parts refl in
           let P : List ℕ → Type 0 = λ w. passes w ≡ false in
           subst P (bytes_of bs at b (IsUtf8-drop bs at u here.boundary) here.rest) (next.first at (omega arith) (before_found a b parts less) here.boundary)
+
+-- nothing is there where what is seen of it is nothing
+pub is_some-mapped : {A B : Type 0} (f : A → B) (o : Option A) → option_map f o ≡ None → is_some o ≡ false
+is_some-mapped f None none = refl
+is_some-mapped f (Some x) none = cc

@@ -1,5 +1,5 @@
 -- A state's first output is the best match of all that was read so far, and at the root nothing can better the mark any more, since no match that goes on starts as early.
-use Rattle.std.proofs.Common.{◌≡◌, ◌≢◌, ℕ, ◌+◌, List, [], ◌∷◌, ◌++◌, Option, Some, refl, sym, ap, ◌∙◌, subst, append_assoc, arith}
+use Rattle.std.proofs.Common.{◌≡◌, ◌≢◌, ℕ, ◌+◌, ◌<◌, length, List, [], ◌∷◌, ◌++◌, Option, Some, refl, sym, ap, ◌∙◌, subst, append_assoc, arith}
 use Rattle.std.specs.Iterator.{YieldsFirstBy}
 use Rattle.std.specs.declared.num.NonZeroU32.{NonZeroU32}
 use Rattle.daachorse_core.specs.Outputs.{number}
@@ -93,3 +93,16 @@ units-preserved g c =
           was next c.step-next.ensures.most c.step-next.ensures.least steady
           (IsFound-keeps width view text c.requires.kind was.seen t u best steady chain was.found);
     }
+
+shorter : (xs ys : List ℕ) (x : ℕ) → xs ≡ x ∷ ys → length ys < length xs
+shorter xs ys x is = omega (arith, ap length is)
+
+pub units-smaller : goal.units-smaller
+units-smaller g c =
+    let rest = g.H.Haystack.rest in
+    shorter (rest c.units.source) (rest c.next.new.self) (g.A.Unit.EdgeLabel.unit c.in-Some.unit) (g.met.H.Haystack.gives _ _ _ c.in-Some.ensures.steps)
+
+pub units-smaller-in-Some-position : goal.units-smaller-in-Some-position
+units-smaller-in-Some-position g c =
+    let rest = g.H.Haystack.rest in
+    shorter (rest c.units.source) (rest c.next.new.self) (g.A.Unit.EdgeLabel.unit c.in-Some.unit) (g.met.H.Haystack.gives _ _ _ c.in-Some.ensures.steps)

@@ -1,5 +1,5 @@
 -- While no state has an output, nothing occurs in what was read, so the first output is that of the best so far, and at the root, where no key that began goes on, the scan may stop.
-use Rattle.std.proofs.Common.{◌≡◌, ◌≢◌, ℕ, ◌+◌, ◌-◌, length, Bool, List, [], ◌∷◌, ◌++◌, Option, Some, None, refl, sym, ap, ◌∙◌, subst, append_assoc, arith}
+use Rattle.std.proofs.Common.{◌≡◌, ◌≢◌, ℕ, ◌+◌, ◌-◌, ◌<◌, length, Bool, List, [], ◌∷◌, ◌++◌, Option, Some, None, refl, sym, ap, ◌∙◌, subst, append_assoc, arith}
 use Rattle.std.specs.Iterator.{YieldsFirstBy}
 use Rattle.std.specs.declared.num.NonZeroU32.{NonZeroU32}
 use Rattle.daachorse_core.specs.Outputs.{number}
@@ -122,3 +122,11 @@ units-preserved g c =
           ] in
           PendsBefore-more view.content text was.seen more t u parts (c.step-next.ensures.cut c.requires.kind was.seen was.steady) going (subst P (ap length next) (c.units.invariant.pends may));
     }
+
+shorter : (xs ys : List ℕ) (x : ℕ) → xs ≡ x ∷ ys → length ys < length xs
+shorter xs ys x is = omega (arith, ap length is)
+
+pub units-smaller : goal.units-smaller
+units-smaller g c =
+    let rest = g.H.Haystack.rest in
+    shorter (rest c.units.source) (rest c.next.new.self) (g.A.Unit.EdgeLabel.unit c.in-Some-next.unit) (g.met.H.Haystack.gives _ _ _ c.in-Some-next.ensures.steps)

@@ -5,6 +5,7 @@ use Rattle.std.specs.Prelude.{option_map, encode_utf8_all}
 use Rattle.std.specs.Str.{chars}
 use Rattle.daachorse_model.specs.Folding.{as_read}
 use Rattle.daachorse_model.specs.Units.{char_width}
+use Rattle.daachorse_prefilter.specs.declared.buckets.gate.BucketsGate.{BucketsGate}
 use Rattle.daachorse_prefilter.specs.declared.prefilter.gate.PrefilterGate.{PrefilterGate}
 use Rattle.daachorse_prefilter.specs.Gates.{HasRecorded}
 use Rattle.daachorse_prefilter.specs.Filters.{Filter, admits}
@@ -12,7 +13,7 @@ use Rattle.daachorse_haystack.specs.Filters.{IsNextPassing}
 use Rattle.daachorse_prefilter.specs.Asked.{Asked, lets_pass}
 use Rattle.daachorse_prefilter.specs.Buckets.{may_begin}
 use Rattle.daachorse_prefilter.specs.Places.{IsFirstBoundary}
-use Rattle.daachorse_prefilter.proofs.SkipLaws.{IsUtf8-as_read, chars-as_read, chars_cut, chars_sized, recorded_skip, skipped_chars}
+use Rattle.daachorse_prefilter.proofs.SkipLaws.{IsUtf8-as_read, chars-as_read, chars_cut, chars_sized, is_some-mapped, recorded_skip, skipped_chars}
 use Rattle.daachorse_prefilter.proofs.skipping.SkippingFilterCharText.skip.Goals as goal
 
 pub after-requires : goal.after-requires
@@ -47,3 +48,11 @@ returns-in-Some-clause-records g c = λ gains before.
     let behind : later ≡ chars (drop r bs) = c.after.ensures (chars (take r bs)) (chars (drop r bs)) cut sized in
     let parts : h ≡ chars (take r bs) ++ later = cut ∙ ap (λ w. chars (take r bs) ++ w) (sym behind) in
     recorded_skip char_width c.record.new.self c.args.self.now.filter f (chars (take r bs)) h later gains r shown parts sized recorded
+
+pub returns-in-Some-clause-passes : goal.returns-in-Some-clause-passes
+returns-in-Some-clause-passes g c = λ w. ap (λ (s : Asked). lets_pass (may_begin s.buckets) s.filter (encode_utf8_all w)) c.self.view_is
+
+pub returns-in-Some-clause-stays : goal.returns-in-Some-clause-stays
+returns-in-Some-clause-stays g c = λ none.
+    let no_buckets = is_some-mapped (λ (b : Bor (List ℕ)). b.now) c.self.inside.buckets (ap (λ (s : Asked). s.buckets) c.self.view_is ∙ none) in
+    ap (λ (gate : BucketsGate). gate.is_open) (c.after-self-inside.ensures (c.is_some.ensures ∙ no_buckets)) ∙ ap (λ (s : Asked). s.buckets_gate_is_open) c.self.view_is

@@ -3,6 +3,7 @@ use Rattle.std.proofs.Common.{◌≡◌, ℕ, ◌≤◌, ◌&&◌, ◌++◌, Lis
 use Rattle.std.specs.Borrow.{Bor}
 use Rattle.std.specs.Prelude.{option_map}
 use Rattle.daachorse_model.specs.Units.{byte_width}
+use Rattle.daachorse_prefilter.specs.declared.buckets.gate.BucketsGate.{BucketsGate}
 use Rattle.daachorse_prefilter.specs.declared.prefilter.gate.PrefilterGate.{PrefilterGate}
 use Rattle.daachorse_prefilter.specs.Gates.{HasRecorded}
 use Rattle.daachorse_prefilter.specs.Filters.{Filter, admits}
@@ -10,7 +11,7 @@ use Rattle.daachorse_haystack.specs.Filters.{IsNextPassing}
 use Rattle.daachorse_prefilter.specs.Asked.{Asked, lets_pass}
 use Rattle.daachorse_prefilter.specs.Buckets.{may_begin}
 use Rattle.daachorse_prefilter.specs.Places.{IsFirstPlace}
-use Rattle.daachorse_prefilter.proofs.SkipLaws.{bytes_sized, recorded_skip, skipped_bytes}
+use Rattle.daachorse_prefilter.proofs.SkipLaws.{bytes_sized, is_some-mapped, recorded_skip, skipped_bytes}
 use Rattle.daachorse_prefilter.proofs.skipping.SkippingFilterU8Bytes.skip.Goals as goal
 
 pub after-requires : goal.after-requires
@@ -41,3 +42,11 @@ returns-in-Some-clause-records g c = λ gains before.
     let behind : later ≡ drop r h = c.after.ensures (take r h) (drop r h) (sym (take-append-drop r h)) (bytes_sized h r inside) in
     let parts : h ≡ take r h ++ later = sym (take-append-drop r h) ∙ ap (λ w. take r h ++ w) (sym behind) in
     recorded_skip byte_width c.record.new.self c.args.self.now.filter f (take r h) h later gains r shown parts (bytes_sized h r inside) recorded
+
+pub returns-in-Some-clause-passes : goal.returns-in-Some-clause-passes
+returns-in-Some-clause-passes g c = λ w. ap (λ (s : Asked). lets_pass (may_begin s.buckets) s.filter w) c.self.view_is
+
+pub returns-in-Some-clause-stays : goal.returns-in-Some-clause-stays
+returns-in-Some-clause-stays g c = λ none.
+    let no_buckets = is_some-mapped (λ (b : Bor (List ℕ)). b.now) c.self.inside.buckets (ap (λ (s : Asked). s.buckets) c.self.view_is ∙ none) in
+    ap (λ (gate : BucketsGate). gate.is_open) (c.after-self-inside.ensures (c.is_some.ensures ∙ no_buckets)) ∙ ap (λ (s : Asked). s.buckets_gate_is_open) c.self.view_is

@@ -1,5 +1,5 @@
 -- A call comes to the next output, by going on where none is pending, and gives its match; what is left begins with it.
-use Rattle.std.proofs.Common.{◌≡◌, ◌+◌, ◌∷◌, ℕ, List, [], length, Option, Some, None, refl, sym, ap, ◌∙◌, subst, arith}
+use Rattle.std.proofs.Common.{◌≡◌, ◌+◌, ◌∷◌, ◌++◌, ℕ, List, [], length, Option, Some, None, refl, sym, ap, ◌∙◌, subst, arith}
 use Rattle.std.specs.Prelude.{IfNone, IfSome}
 use Rattle.std.specs.declared.num.NonZeroU32.{NonZeroU32}
 use Rattle.daachorse_core.specs.Outputs.{number}
@@ -190,3 +190,16 @@ returns g c =
       behind = next.2;
     }) in
     record { steps = gave; goes = record { on = λ _. (tt, tt, omega (arith, ap length gave.first)); keeps = tt; rests = λ _. tt } }
+
+pub go_on-requires-clause-sound : goal.go_on-requires-clause-sound
+go_on-requires-clause-sound g c = λ key rest is. c.self.invariant.0 (key ++ rest) ∙ c.self.invariant.1.sound key rest is
+
+-- where none is pending, the first of all is the next to give
+first_next : (first : Option NonZeroU32) (P : ℕ → Type 0) → P (next_position first None) → P (number first)
+first_next None P here = here
+first_next (Some first) P here = here
+
+pub go_on-requires-clause-place : goal.go_on-requires-clause-place
+go_on-requires-clause-place g c =
+    let P : Option NonZeroU32 → Type 0 = λ output. g.W.Stepwise.sees.has_output c.self.inside.walk (next_position c.self.inside.first output) in
+    first_next c.self.inside.first (g.W.Stepwise.sees.has_output c.self.inside.walk) (subst P c.in-None.is c.self.invariant.1.output)

@@ -1,4 +1,4 @@
-"""Tests of the package: by hand, over bindings/rows, and beside the definitions of rows.py."""
+"""Tests of the package: by hand, over the table of crates/daachorse_table, and beside the definitions."""
 
 import array
 import copy
@@ -6,21 +6,21 @@ import doctest
 import hashlib
 import importlib
 import mmap
-import os
 import pickle
 import random
 import statistics
+import struct
 import sys
 import tempfile
 import threading
 import time
+import tracemalloc
 import unittest
 
+import definitions
+import running
+import table
 from daachorse import Automaton, Kind, Refusal, Refused
-
-BINDINGS = os.path.join(os.path.dirname(os.path.abspath(__file__)), "..")
-sys.path.append(BINDINGS)
-definitions = importlib.import_module("rows")
 
 STANDARD, LONGEST, FIRST = Kind
 PATTERNS = [b"ab", b"abcd", b"bc", b"cd"]
@@ -102,6 +102,12 @@ SENTENCES = [
     (Refusal.INVALID_AUTOMATON, "no UTF-8", lambda: Automaton.read(Automaton([b"\xff"]).write(), unit=str)),
 ]
 
+# Patterns that are UTF-8, and patterns that are not.
+TEXTS = [b"\x7f", b"\xc2\x80", b"\xdf\xbf", b"\xe0\xa0\x80", b"\xec\xbf\xbf", b"\xed\x9f\xbf", b"\xee\x80\x80", b"\xef\xbf\xbf"]
+TEXTS += [b"\xf0\x90\x80\x80", b"\xf1\x80\x80\x80", b"\xf3\xbf\xbf\xbf", b"\xf4\x8f\xbf\xbf", b""]
+NO_TEXTS = [b"\x80", b"\xbf", b"\xc2", b"\xc1\xbf", b"\xc2\x7f", b"\xc2\xc0", b"\xe2\x82", b"\xe2\x82a", b"\xe0\x9f\xbf", b"\xed\xa0\x80"]
+NO_TEXTS += [b"\xf0\x9f\x98", b"\xf0\x8f\xbf\xbf", b"\xf4\x90\x80\x80", b"\xf5\x80\x80\x80", b"\xff"]
+
 # Patterns, a text, the longest pattern that begins it, and all these.
 PREFIXES = [
     ([b"ab", b"abcd", b"b"], b"abcde", (0, 4, 1), [(0, 2, 0), (0, 4, 1)]),
@@ -111,35 +117,6 @@ PREFIXES = [
     ([b"abc"], b"ab", None, []),
     ([], b"ab", None, []),
 ]
-
-
-def rows():
-    """Yields the rows of the table, which C and Rust are tested with too, results as words."""
-    with open(os.path.join(BINDINGS, "rows"), encoding="ascii") as lines:
-        for line in lines:
-            name, kind, any_case, patterns, haystack, count, *words = line.split()
-            assert any_case in ("0", "1") and int(count) == len(words)
-            patterns = [] if patterns == "none" else [text(word) for word in patterns.split(",")]
-            yield name, Kind(int(kind)), any_case == "1", patterns, text(haystack), words
-
-
-def text(word):
-    return b"" if word == "-" else bytes.fromhex(word)
-
-
-def table():
-    """Yields the rows of searches in the form of ROWS."""
-    for *row, words in rows():
-        if row[0] != "patterns":
-            yield *row, [tuple(map(int, it.split("-"))) for it in words]
-
-
-def listings():
-    """Yields the rows of listings: kind, whether ASCII case is ignored, patterns, listing."""
-    for name, kind, any_case, patterns, _haystack, words in rows():
-        if name == "patterns":
-            pairs = (it.split(":") for it in words)
-            yield kind, any_case, patterns, [(text(it), int(value)) for it, value in pairs]
 
 
 def drawn_rows(count):
@@ -156,7 +133,9 @@ def drawn_rows(count):
         if b"" not in patterns:
             haystacks[part + b"x" * 1000] = 40
         for haystack, times in haystacks.items():
-            for name, kind, matches in definitions.searches(patterns, haystack if times == 1 else part):
+            for name, kind in definitions.SEARCHES:
+                valued = [(it, value) for value, it in enumerate(patterns)]
+                matches = definitions.found_by(name, kind, valued, haystack if times == 1 else part)
                 offsets = range(0, len(haystack) * times, len(haystack) or 1) if times > 1 else [0]
                 matches = [(start + at, end + at, value) for at in offsets for start, end, value in matches]
                 yield name, Kind(kind), patterns, haystack * times, matches
@@ -164,9 +143,26 @@ def drawn_rows(count):
                 yield name, Kind(kind), translated, (haystack * times).decode().translate(characters), matches
 
 
+class TableTest(unittest.TestCase):
+    def test_rows(self):
+        counts, told_apart = {True: 0, None: 0}, 0
+        for line, is_wrong in table.lines():
+            with self.subTest(line=line):
+                holds = running.holds(line)
+                self.assertIsNot(holds, is_wrong)
+                if is_wrong:
+                    told_apart += holds is False
+                else:
+                    counts[holds] += 1
+        counted = f"{counts[True]} rows hold, {counts[None]} are skipped, and {told_apart} are wrong as they should be"
+        print(counted, file=sys.stderr)
+        self.assertGreaterEqual(counts[True], 1000)
+        self.assertGreater(told_apart, 0)
+
+
 class SearchTest(unittest.TestCase):
     def test_rows(self):
-        for name, kind, any_case, patterns, haystack, matches in [*ROWS, *table()]:
+        for name, kind, any_case, patterns, haystack, matches in ROWS:
             for use_prefilter in (False, True):
                 settings = dict(kind=kind, use_prefilter=use_prefilter, ascii_case_insensitive=any_case)
                 with self.subTest(name=name, patterns=patterns, haystack=haystack, **settings):
@@ -178,7 +174,7 @@ class SearchTest(unittest.TestCase):
                             self.assertEqual((again.kind, again.ignores_ascii_case, again.unit), (kind, any_case, unit))
 
     def test_rows_in_pieces(self):
-        for name, kind, any_case, patterns, haystack, matches in [*ROWS, *table()]:
+        for name, kind, any_case, patterns, haystack, matches in ROWS:
             with Automaton(patterns, kind=kind, ascii_case_insensitive=any_case) as automaton:
                 for size in (1, 2, 3):
                     with self.subTest(name=name, patterns=patterns, haystack=haystack, size=size):
@@ -228,7 +224,7 @@ class SearchTest(unittest.TestCase):
         haystacks[0].clear()
 
     def test_first_and_replaced(self):
-        for name, kind, any_case, patterns, haystack, matches in [*ROWS, *table()]:
+        for name, kind, any_case, patterns, haystack, matches in ROWS:
             if name not in ("find", "leftmost_find"):
                 continue
             with self.subTest(name=name, kind=kind, patterns=patterns, haystack=haystack):
@@ -286,15 +282,6 @@ class StreamTest(unittest.TestCase):
 
 class DictionaryTest(unittest.TestCase):
     def test_items(self):
-        for kind, any_case, patterns, listed in listings():
-            with self.subTest(kind=kind, any_case=any_case, patterns=patterns):
-                automaton = Automaton(patterns, kind=kind, ascii_case_insensitive=any_case)
-                self.assertEqual((automaton.items(), len(automaton)), (listed, len(listed)))
-                again = Automaton([it for it, _ in listed], values=[value for _, value in listed])
-                self.assertEqual(again.items(), listed)
-                for pattern, _ in listed:
-                    self.assertIn(pattern, automaton)
-                    self.assertEqual(automaton.get(pattern), dict(reversed(listed))[pattern])
         self.assertEqual(Automaton(["é", "b"]).items(), [("b", 1), ("é", 0)])
         many = [number.to_bytes(2, "big") for number in range(1000)]
         automaton = Automaton(reversed(many), values=range(2**32 - 1, 2**32 - 1001, -1))
@@ -331,7 +318,47 @@ class DictionaryTest(unittest.TestCase):
         self.assertEqual((rest, len(again)), (b"rest", 4))
 
 
+def crowded_form(first, second, count):
+    """A form in which each text of a byte of `first` and one of `second` has the same outputs, so many."""
+    blocks = 2 + len(first)
+    checks = [(at & 255) ^ 1 for at in range(256 * blocks)]  # These make no element a child.
+    elements = [[0, 0, check] for check in checks]
+    elements[0] = [256, 0, 0]
+    for number, byte in enumerate(first):
+        elements[256 + byte] = [256 * (2 + number), 0, byte]
+        for after in second:
+            link = 256 + after if after in first else 0
+            elements[256 * (2 + number) + after] = [0, link, after | count << 8]
+    lists = [elements, [], [], [[value, 2, value] for value in range(count)]]
+    parts = [struct.pack(f"<I{3 * len(it)}I", len(it), *(number for item in it for number in item)) for it in lists]
+    return b"".join(parts) + struct.pack("<BIB", STANDARD, 1 + len(first) + len(first) * len(second), 0)
+
+
 class RefusalTest(unittest.TestCase):
+    def test_a_form_may_have_more_patterns_than_memory_holds(self):
+        letters, outputs = bytes(range(1, 128)), 60000
+        few = Automaton.read(crowded_form(b"ab", b"cd", 3), str)[0]
+        self.assertEqual(few.items(), [(text, value) for text in ("ac", "ad", "bc", "bd") for value in (2, 1, 0)])
+        form = crowded_form(letters, letters, outputs)
+        tracemalloc.start()
+        automaton, _rest = Automaton.read(form, str)
+        _held, most = tracemalloc.get_traced_memory()
+        tracemalloc.stop()
+        self.assertLess(most, 4 * len(form))
+        self.assertEqual(automaton.find_first("€zz"), (1, 3, outputs - 1))
+        for first, second in ((letters, b"a\x80"), (b"a\xc3", b"\xa9"), (b"\xe2", b"\x82")):
+            self.refused(Refusal.INVALID_AUTOMATON, lambda: Automaton.read(crowded_form(first, second, outputs), str))
+        self.assertTrue(Automaton.read(crowded_form(b"\xc3", b"\xa9", outputs), str)[0].is_match("é"))
+
+    def test_patterns_of_texts_are_utf8(self):
+        for kind in Kind:
+            written = Automaton([b"a", *TEXTS], kind=kind).write()
+            self.assertEqual(Automaton.read(written, str)[0].items(), [(it.decode(), value) for it, value in Automaton.read(written)[0].items()])
+            for pattern in NO_TEXTS:
+                with self.subTest(kind=kind, pattern=pattern):
+                    written = Automaton(["é".encode(), b"z" + pattern, b"zz"], kind=kind).write()
+                    self.refused(Refusal.INVALID_AUTOMATON, lambda: Automaton.read(written, str))
+
     def test_sentences(self):
         for number, (wanted, words, call) in enumerate(SENTENCES):
             with self.subTest(row=number, words=words):

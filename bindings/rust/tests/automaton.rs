@@ -1,4 +1,4 @@
-//! Tests of the crate, by hand and over the table bindings/rows.
+//! Tests of the crate by hand.
 
 use daachorse_c::{Automaton, Builder, Counts, Kind, Match, Refusal};
 
@@ -51,94 +51,6 @@ fn each_search_finds_its_matches() {
             triples(first.leftmost_find(b"abcd")),
             [(0, 2, 0), (2, 4, 3)]
         );
-    }
-}
-
-fn text(word: &str) -> Vec<u8> {
-    if word == "-" {
-        return Vec::new();
-    }
-    let digits = |at: usize| u8::from_str_radix(&word[at..at + 2], 16).unwrap();
-    (0..word.len()).step_by(2).map(digits).collect()
-}
-
-fn numbers(word: &str) -> (usize, usize, u32) {
-    let mut parts = word.split('-').map(|part| part.parse::<usize>().unwrap());
-    let mut next = || parts.next().unwrap();
-    (next(), next(), next() as u32)
-}
-
-/// The words of each row of the table `bindings/rows`, which C and Python are tested with too.
-fn rows() -> impl Iterator<Item = Vec<&'static str>> {
-    let rows = include_str!("../../rows").lines();
-    rows.map(|row| row.split(' ').collect())
-}
-
-/// The settings and the patterns of a row.
-fn settings(words: &[&str]) -> (Builder, Vec<Vec<u8>>) {
-    let kinds = [Kind::Standard, Kind::LeftmostLongest, Kind::LeftmostFirst];
-    let builder = Builder::new()
-        .kind(kinds[words[1].parse::<usize>().unwrap()])
-        .ascii_case_insensitive(words[2] == "1");
-    let patterns = match words[3] {
-        "none" => Vec::new(),
-        listed => listed.split(',').map(text).collect(),
-    };
-    (builder, patterns)
-}
-
-#[test]
-fn each_row_is_listed() {
-    for words in rows().filter(|words| words[0] == "patterns") {
-        let pair = |word: &&str| {
-            let (pattern, value) = word.split_once(':').unwrap();
-            (text(pattern), value.parse::<u32>().unwrap())
-        };
-        let wanted: Vec<_> = words[6..].iter().map(pair).collect();
-        let (builder, patterns) = settings(&words);
-        let automaton = builder.build(patterns.iter().map(Vec::as_slice)).unwrap();
-        assert_eq!(automaton.patterns().unwrap(), wanted, "{words:?}");
-        let listed = wanted.iter().map(|(pattern, value)| (&pattern[..], *value));
-        let again = Builder::new().build_with_values(listed).unwrap();
-        assert_eq!(again.patterns().unwrap(), wanted, "{words:?}");
-    }
-}
-
-#[test]
-fn each_row_is_found() {
-    for words in rows().filter(|words| words[0] != "patterns") {
-        let (builder, patterns) = settings(&words);
-        let haystack = text(words[4]);
-        let wanted: Vec<_> = words[6..].iter().map(|word| numbers(word)).collect();
-        for use_prefilter in [false, true] {
-            let patterns = patterns.iter().map(Vec::as_slice);
-            let automaton = builder
-                .use_prefilter(use_prefilter)
-                .build(patterns)
-                .unwrap();
-            for searcher in [&automaton, &automaton.accelerate().unwrap()] {
-                let found = match words[0] {
-                    "find" => searcher.find(&haystack),
-                    "find_overlapping" => searcher.find_overlapping(&haystack),
-                    "find_overlapping_no_suffix" => searcher.find_overlapping_no_suffix(&haystack),
-                    _ => searcher.leftmost_find(&haystack),
-                };
-                assert_eq!(triples(found), wanted, "{words:?}");
-            }
-            let stream = match words[0] {
-                "find" => automaton.stream(false),
-                "find_overlapping" => automaton.stream(true),
-                "find_overlapping_no_suffix" => automaton.no_suffix_stream(),
-                _ => automaton.leftmost_stream(),
-            };
-            let mut stream = stream.unwrap();
-            let mut told = triples(stream.feed(b""));
-            for piece in haystack.chunks(2) {
-                told.extend(triples(stream.feed(piece)));
-            }
-            told.extend(triples(stream.finish()));
-            assert_eq!(told, wanted, "{words:?}");
-        }
     }
 }
 

@@ -4,17 +4,17 @@
 ghost use Rattle.std.specs.Prelude.{None};
 
 use crate::expect;
+use crate::halting::{Halt, Halting};
 use daacfind_command::command::{Find, command};
 use daacfind_command::inputs::{Arguments, Inputs};
 use daacfind_command::mode::Mode;
-use daacfind_command::program::run_in;
+use daacfind_command::program::{Command, run_in};
 use daacfind_command::run::{RunError, run};
 use daacfind_command::sink::WriterSink;
 use daachorse::errors::{DaachorseError, Limit};
 use refusing::Refusing;
 use std::alloc::{AllocError, Global};
 use std::env::FillError;
-use std::io::{self, Write};
 use std::rt::Env;
 use std::test::Fail;
 
@@ -25,12 +25,12 @@ const USAGE: &[u8] = b"usage: daacfind overlapping|nosuffix|find|longest|first P
 
 const PATTERNS: &[u8] = b"bcd\nab\na\n";
 
-/// A few files in memory, one of them the automaton, and how often a read was tried.
+// A few files in memory, one of them the automaton, and how often a read was tried.
 #[derive(Drop)]
-pub struct Memory<'a> {
-    pub alloc: Global,
-    pub reads: u64,
-    pub automaton: &'a [u8],
+struct Memory<'a> {
+    alloc: Global,
+    reads: u64,
+    automaton: &'a [u8],
 }
 
 impl Inputs for Memory<'_> {
@@ -52,10 +52,10 @@ impl Inputs for Memory<'_> {
     }
 }
 
-/// The words of a command line after the program's name.
+// The words of a command line after the program's name.
 #[derive(Drop)]
-pub struct Words<'a> {
-    pub words: &'a [&'a [u8]],
+struct Words<'a> {
+    words: &'a [&'a [u8]],
 }
 
 impl Env for Words<'_> {
@@ -77,59 +77,6 @@ impl Env for Words<'_> {
 
     fn var_at(&self, _i: usize, _buf: &mut [u8]) -> Result<usize, FillError> {
         Err(FillError::NotPresent)
-    }
-}
-
-// What a writer does once it takes no more.
-#[derive(Clone, Copy)]
-enum Halt {
-    Fails,
-    TakesNothing,
-}
-
-// A writer that takes `left` bytes, one a call, and then halts. A flush records how many bytes were
-// taken, and fails unless `can_flush`.
-#[derive(Drop)]
-struct Halting {
-    left: usize,
-    halt: Halt,
-    taken: Vec<u8>,
-    can_flush: bool,
-    flushes: Vec<usize>,
-}
-
-impl Halting {
-    // A writer that takes this many bytes, and then fails.
-    fn new(alloc: Global, left: usize) -> Halting {
-        Halting {
-            left,
-            halt: Halt::Fails,
-            taken: Vec::new(alloc),
-            can_flush: true,
-            flushes: Vec::new(alloc),
-        }
-    }
-}
-
-impl Write for Halting {
-    fn write(&mut self, buf: &[u8]) -> io::Result<usize> {
-        let byte = match (self.left, self.halt, buf.first()) {
-            (0, Halt::Fails, _) => return Err(io::Error::from(io::ErrorKind::Other)),
-            (0, Halt::TakesNothing, _) | (_, _, None) => return Ok(0),
-            (_, _, Some(byte)) => *byte,
-        };
-        self.taken.push(byte)?;
-        self.left -= 1;
-        Ok(1)
-    }
-
-    fn flush(&mut self) -> io::Result<()> {
-        self.flushes.push(self.taken.len())?;
-        if self.can_flush {
-            Ok(())
-        } else {
-            Err(io::Error::from(io::ErrorKind::Other))
-        }
     }
 }
 
@@ -283,8 +230,16 @@ const ROWS: &[Row] = &[
         reads: 2,
     },
     Row {
-        shows: "an empty file",
+        shows: "no pattern in the file of patterns",
         words: &[b"find", b"nothing", b"letter"],
+        status: 0,
+        written: b"",
+        told: b"",
+        reads: 2,
+    },
+    Row {
+        shows: "an empty haystack",
+        words: &[b"find", b"patterns", b"nothing"],
         status: 0,
         written: b"",
         told: b"",
@@ -292,23 +247,55 @@ const ROWS: &[Row] = &[
     },
 ];
 
-// Whether the program ends as the row says.
-fn ends_so(alloc: Global, row: &Row) -> Result<bool, AllocError> {
+/// How a program ends: its status, what its output took, its messages on standard error, and how
+/// often it reads a file.
+#[derive(Drop)]
+pub struct End {
+    pub status: u8,
+    pub out: WriterSink<Halting>,
+    err: WriterSink<Vec<u8>>,
+    reads: u64,
+}
+
+impl End {
+    /// Whether it is so.
+    pub fn is(&self, status: u8, written: &[u8], told: &[u8], reads: u64) -> bool {
+        self.status == status
+            && self.out.writer().taken.as_slice() == written
+            && self.err.writer().as_slice() == told
+            && self.reads == reads
+    }
+}
+
+/// How a program ends on these words, with this automaton as a file and an output that takes so many
+/// bytes.
+pub fn end_of<C: Command>(
+    alloc: Global,
+    automaton: &[u8],
+    words: &[&[u8]],
+    room: usize,
+) -> Result<End, AllocError> {
     let mut files = Memory {
         alloc,
         reads: 0,
-        automaton: b"",
+        automaton,
     };
-    let mut out = WriterSink::new(Vec::new(alloc));
+    let mut out = WriterSink::new(Halting::new(alloc, room));
     let mut err = WriterSink::new(Vec::new(alloc));
-    let words = Words { words: row.words };
-    let status = run_in::<Find, _, _, _, _>(&words, alloc, &mut files, &mut out, &mut err)?;
-    Ok(
-        status == row.status
-            && out.writer().as_slice() == row.written
-            && err.writer().as_slice() == row.told
-            && files.reads == row.reads,
-    )
+    let status = run_in::<C, _, _, _, _>(&Words { words }, alloc, &mut files, &mut out, &mut err)?;
+    let reads = files.reads;
+    Ok(End {
+        status,
+        out,
+        err,
+        reads,
+    })
+}
+
+// Whether the program ends as the row says.
+fn ends_so(alloc: Global, row: &Row) -> Result<bool, AllocError> {
+    let end = end_of::<Find>(alloc, b"", row.words, usize::MAX)?;
+    Ok(end.is(row.status, row.written, row.told, row.reads))
 }
 
 #[test]
@@ -412,6 +399,17 @@ fn a_command_that_fails_tells_its_status(rt: HostRuntime) {
     }
 }
 
+// Runs a search with memory of which a request may be refused, and an output that halts.
+fn ran(
+    heap: &Refusing<Global>,
+    mode: Mode,
+    patterns: &[u8],
+    haystack: &[u8],
+    out: &mut WriterSink<Halting>,
+) -> Result<(), RunError> {
+    run(heap, mode, patterns, haystack, out)
+}
+
 const FAR: &[u8] = b"1000 1002 0\n1002 1004 1\n";
 
 // Whether a run wrote both matches, or was refused memory for its build and wrote nothing.
@@ -434,7 +432,7 @@ fn is_found_far(alloc: Global) -> Result<bool, AllocError> {
     for number in 0..10_000u64 {
         let refusing = Refusing::new(alloc, number);
         let mut out = WriterSink::new(Halting::new(alloc, 99));
-        let outcome = run(&refusing, Mode::Find, b"ab\ncd\n", &haystack, &mut out);
+        let outcome = ran(&refusing, Mode::Find, b"ab\ncd\n", &haystack, &mut out);
         if !is_right(outcome, &out.writer().taken) {
             return Ok(false);
         }
@@ -505,7 +503,8 @@ fn halts_so(alloc: Global, left: usize, halt: Halt, can_flush: bool) -> bool {
         can_flush,
         flushes: Vec::new(alloc),
     });
-    let succeeds = match run(alloc, Mode::Overlapping, PATTERNS, b"abcd", &mut out) {
+    let heap = Refusing::new(alloc, u64::MAX);
+    let succeeds = match ran(&heap, Mode::Overlapping, PATTERNS, b"abcd", &mut out) {
         Ok(()) => true,
         Err(RunError::Write) => false,
         Err(RunError::Build(_)) => return false,

@@ -3,13 +3,13 @@
 ghost use Rattle.std.specs.Prelude.{None};
 
 use crate::expect;
+use crate::halting::Halting;
 use daacfind_command::inputs::Inputs;
 use daacfind_command::sink::{SinkError, WriterSink};
 use daacgrep_command::command::command;
 use daacgrep_command::outputs::Outputs;
 use daacgrep_command::streams::{ReadError, Streams};
 use std::alloc::Global;
-use std::io::{self, Write};
 
 /// A few files in memory, one of them the automaton.
 #[derive(Drop)]
@@ -85,31 +85,6 @@ impl Outputs for Store {
     }
 }
 
-// A writer that takes `left` bytes, one a call, and then fails.
-#[derive(Drop)]
-struct Halting {
-    left: usize,
-    taken: Vec<u8>,
-}
-
-impl Write for Halting {
-    fn write(&mut self, buf: &[u8]) -> io::Result<usize> {
-        let Some(byte) = buf.first() else {
-            return Ok(0);
-        };
-        if self.left == 0 {
-            return Err(io::Error::from(io::ErrorKind::Other));
-        }
-        self.taken.push(*byte)?;
-        self.left -= 1;
-        Ok(1)
-    }
-
-    fn flush(&mut self) -> io::Result<()> {
-        Ok(())
-    }
-}
-
 // The words of a command line, and how the command ends: its status, its output, and its messages
 // on standard error.
 #[derive(Clone, Copy)]
@@ -119,6 +94,35 @@ struct Row {
     status: u8,
     written: &'static str,
     told: &'static str,
+}
+
+// What `--help` prints, in a function of its own, since a proof writes out each constant that it meets.
+fn usage() -> &'static str {
+    "\
+usage: daacgrep [OPTION..] -e PATTERN | -f PATTERNS | --load FILE [FILE..]
+Prints the lines of files, or of standard input, in which a pattern occurs.
+  -e PATTERN  a pattern; again for more
+  -f FILE     the lines of a file as patterns; - for standard input
+  -i          ignore the case of ASCII letters
+  -v          the lines without a match
+  -o          each match in place of its line
+  --longest   of matches at one start the longest, as is usual
+  --first     of matches at one start that of the first pattern
+  --overlapping
+              all matches, also those that overlap
+  -n, -b      the number of the line, the place of the line or match
+  -H, -h      names of files, or none
+  -c, -l      the number of lines, the names of files
+  -q          print nothing
+  --values    a line of patterns has a value behind a tab, which is printed
+              behind the number and the place of its lines or matches
+  --save FILE write the automaton of the patterns to a file, and search none
+  --load FILE search by an automaton that was saved with the same -i, --first
+              and --overlapping; --values wants -f beside it
+  --null-data zero bytes end lines, and not line feeds
+  --help, --version
+Status: 0 if a line is selected, 1 if none, 2 after trouble.
+"
 }
 
 const ROWS: &[Row] = &[
@@ -491,8 +495,27 @@ const ROWS: &[Row] = &[
     },
 ];
 
-// Whether the command ends as the row says, with this automaton as a file.
-fn ends_so(alloc: Global, automaton: &[u8], row: &Row) -> bool {
+// What a command leaves: its status, its output, its messages on standard error, and what it saved.
+#[derive(Drop)]
+struct Left {
+    status: u8,
+    out: WriterSink<Halting>,
+    err: WriterSink<Vec<u8>>,
+    saved: Store,
+}
+
+impl Left {
+    // Whether it is so.
+    fn is(&self, status: u8, written: &[u8], told: &[u8]) -> bool {
+        self.status == status
+            && self.out.writer().taken.as_slice() == written
+            && self.err.writer().as_slice() == told
+    }
+}
+
+// Runs the command on these words, with this automaton as a file and an output that takes so many
+// bytes.
+fn ran(alloc: Global, automaton: &[u8], words: &[&str], room: usize) -> Left {
     let mut files = Memory {
         alloc,
         automaton,
@@ -503,12 +526,24 @@ fn ends_so(alloc: Global, automaton: &[u8], row: &Row) -> bool {
         alloc,
         bytes: Vec::new(alloc),
     };
-    let mut out = WriterSink::new(Vec::new(alloc));
+    let mut out = WriterSink::new(Halting::new(alloc, room));
     let mut err = WriterSink::new(Vec::new(alloc));
-    let status = command(alloc, row.words, &mut files, &mut saved, &mut out, &mut err);
-    status == row.status
-        && out.writer().as_slice() == row.written.as_bytes()
-        && err.writer().as_slice() == row.told.as_bytes()
+    let status = command(alloc, words, &mut files, &mut saved, &mut out, &mut err);
+    Left {
+        status,
+        out,
+        err,
+        saved,
+    }
+}
+
+// Whether the command ends as the row says, with this automaton as a file.
+fn ends_so(alloc: Global, automaton: &[u8], row: &Row) -> bool {
+    ran(alloc, automaton, row.words, usize::MAX).is(
+        row.status,
+        row.written.as_bytes(),
+        row.told.as_bytes(),
+    )
 }
 
 #[test]
@@ -516,6 +551,18 @@ fn each_option_prints_its_text(rt: HostRuntime) {
     for row in ROWS {
         expect(&rt, ends_so(rt.alloc(), b"", row), row.shows);
     }
+}
+
+#[test]
+fn the_usage_is_printed(rt: HostRuntime) {
+    let row = Row {
+        shows: "the usage",
+        words: &["--help"],
+        status: 0,
+        written: usage(),
+        told: "",
+    };
+    expect(&rt, ends_so(rt.alloc(), b"", &row), row.shows);
 }
 
 // The words by which an automaton is saved, and a row by which it is loaded.
@@ -666,25 +713,8 @@ const LOAD_ROWS: &[LoadRow] = &[
 
 // Whether an automaton is saved without a word, and the command then ends as the row says.
 fn loads_so(alloc: Global, row: &LoadRow) -> bool {
-    let mut files = Memory {
-        alloc,
-        automaton: b"",
-        opened: Vec::new(alloc),
-        is_torn: false,
-    };
-    let mut saved = Store {
-        alloc,
-        bytes: Vec::new(alloc),
-    };
-    let mut out = WriterSink::new(Vec::new(alloc));
-    let mut err = WriterSink::new(Vec::new(alloc));
-    let status = command(
-        alloc, row.saving, &mut files, &mut saved, &mut out, &mut err,
-    );
-    status == 0
-        && out.writer().is_empty()
-        && err.writer().is_empty()
-        && ends_so(alloc, &saved.bytes, &row.row)
+    let saving = ran(alloc, b"", row.saving, usize::MAX);
+    saving.is(0, b"", b"") && ends_so(alloc, &saving.saved.bytes, &row.row)
 }
 
 #[test]
@@ -699,30 +729,12 @@ const WORDS: &[&str] = &["-nob", "-f", "words", "log", "open"];
 const WRITTEN: &[u8] = b"log:1:3:error\nlog:3:14:ab\nlog:3:16:ab\n";
 
 // Whether a command whose output takes so many bytes writes just these, and fails if more is left.
-fn halts_so(alloc: Global, left: usize) -> bool {
-    let mut files = Memory {
-        alloc,
-        automaton: b"",
-        opened: Vec::new(alloc),
-        is_torn: false,
-    };
-    let mut saved = Store {
-        alloc,
-        bytes: Vec::new(alloc),
-    };
-    let mut out = WriterSink::new(Halting {
-        left,
-        taken: Vec::new(alloc),
-    });
-    let mut err = WriterSink::new(Vec::new(alloc));
-    let status = command(alloc, WORDS, &mut files, &mut saved, &mut out, &mut err);
-    let taken = out.writer().taken.as_slice();
-    if left < WRITTEN.len() {
-        status == 2
-            && taken == &WRITTEN[..left]
-            && err.writer().as_slice() == b"daacgrep: cannot write\n".as_slice()
+fn halts_so(alloc: Global, room: usize) -> bool {
+    let left = ran(alloc, b"", WORDS, room);
+    if room < WRITTEN.len() {
+        left.is(2, &WRITTEN[..room], b"daacgrep: cannot write\n")
     } else {
-        status == 0 && taken == WRITTEN && err.writer().is_empty()
+        left.is(0, WRITTEN, b"")
     }
 }
 

@@ -7,6 +7,8 @@ mod command;
 #[cfg(test)]
 mod grep;
 #[cfg(test)]
+mod halting;
+#[cfg(test)]
 mod index;
 #[cfg(test)]
 mod own_values;

@@ -83,23 +83,36 @@ fn put(bytes: &mut [u8], place: usize, byte: u8) {
     }
 }
 
+/// The error of a read over bytes with this byte changed.
+fn error_over_bytes(alloc: Global, place: usize, byte: u8) -> Result<Option<DaachorseError>> {
+    let mut bytes = over_bytes(alloc)?.serialize(alloc)?;
+    put(&mut bytes, place, byte);
+    Ok(OverBytes::deserialize(alloc, &bytes).err())
+}
+
+/// The error of a read over characters with this byte changed.
+fn error_over_characters(alloc: Global, place: usize, byte: u8) -> Result<Option<DaachorseError>> {
+    let mut bytes = over_characters(alloc)?.serialize(alloc)?;
+    put(&mut bytes, place, byte);
+    Ok(OverCharacters::deserialize(alloc, &bytes).err())
+}
+
+/// Whether this is the error of a value, or else that of an automaton.
+fn is_error(error: &Option<DaachorseError>, is_own: bool) -> bool {
+    match error {
+        Some(DaachorseError::InvalidConversion(_)) => is_own,
+        Some(DaachorseError::InvalidAutomaton(_)) => !is_own,
+        _ => false,
+    }
+}
+
 #[test]
 fn a_bad_rating_has_its_own_error(rt: HostRuntime) -> Result<(), Fail> {
-    let alloc = rt.alloc();
     for (shows, place, place_of_text, byte, is_own) in CHANGES {
-        let expected = if is_own {
-            DaachorseError::invalid_conversion()
-        } else {
-            DaachorseError::invalid_automaton()
-        };
-        let mut bytes = over_bytes(alloc)?.serialize(alloc)?;
-        put(&mut bytes, place, byte);
-        let error = OverBytes::deserialize(alloc, &bytes).err();
-        expect(&rt, error == Some(expected), shows);
-        let mut bytes = over_characters(alloc)?.serialize(alloc)?;
-        put(&mut bytes, place_of_text, byte);
-        let error = OverCharacters::deserialize(alloc, &bytes).err();
-        expect(&rt, error == Some(expected), shows);
+        let error = error_over_bytes(rt.alloc(), place, byte)?;
+        expect(&rt, is_error(&error, is_own), shows);
+        let error = error_over_characters(rt.alloc(), place_of_text, byte)?;
+        expect(&rt, is_error(&error, is_own), shows);
     }
     Ok(())
 }

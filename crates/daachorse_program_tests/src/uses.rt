@@ -1,12 +1,20 @@
 //! `daachorse_uses`, where no contract speaks: what is found in a stream.
 
-use daachorse::{CharwiseDoubleArrayAhoCorasick, DoubleArrayAhoCorasick, Match};
+ghost use Rattle.std.specs.Prelude.{◌≡◌, IfOk};
+ghost use Rattle.daachorse_model.specs.declared.MatchKind.TheVariants.{Standard};
+
+use crate::expect;
+use daachorse::{CharwiseDoubleArrayAhoCorasick, DoubleArrayAhoCorasick, Match, Result};
 use daachorse_uses::stream::{
     count_in_reader, first_in_characters, first_in_reader, name_matches, redact_log,
 };
 use std::alloc::Global;
 use std::io;
 use std::test::Fail;
+
+type Bytewise = DoubleArrayAhoCorasick<u32>;
+
+type Charwise = CharwiseDoubleArrayAhoCorasick<u32>;
 
 /// A text, the start, end and value of the match that ends first, what is not read of the text, and
 /// the text with the values of its matches.
@@ -35,37 +43,50 @@ fn is_first(found: Option<Match<u32>>, expected: Option<(usize, usize, u32)>) ->
     }
 }
 
-/// Whether a row holds over bytes that are read and over characters that come one by one.
-fn row_holds(alloc: Global, row: &StreamRow) -> Result<bool, Fail> {
-    let (text, expected, left, named) = *row;
-    let words: DoubleArrayAhoCorasick<u32> = DoubleArrayAhoCorasick::new(
-        alloc,
-        [b"abcd".as_slice(), b"bx"],
-    )?;
+/// The automaton of the words over bytes.
+fn over_bytes(alloc: Global) -> Result<Bytewise>
+    ensures { IfOk result (λ a. a.parts.kind ≡ Standard) }
+{
+    DoubleArrayAhoCorasick::new(alloc, [b"abcd".as_slice(), b"bx"])
+}
+
+/// Whether the first match in bytes that are read is that of a row.
+fn is_first_read(alloc: Global, row: &StreamRow) -> io::Result<bool> {
+    let (text, expected, left, _) = *row;
     let mut bytes = text.as_bytes();
-    let in_bytes = first_in_reader(&words, &mut bytes)?;
+    let found = first_in_reader(&over_bytes(alloc)?, &mut bytes)?;
+    Ok(is_first(found, expected) && bytes == left.as_bytes())
+}
+
+/// Whether matches in bytes that are read are named as in a row.
+fn are_named(alloc: Global, row: &StreamRow) -> io::Result<bool> {
+    let (text, _, _, named) = *row;
     let mut out = Vec::new(alloc);
-    name_matches(&words, alloc, text.as_bytes(), &mut out)?;
-    let count = count_in_reader(&words, alloc, text.as_bytes())?;
-    let words: CharwiseDoubleArrayAhoCorasick<u32> = CharwiseDoubleArrayAhoCorasick::new(
-        alloc,
-        ["abcd", "bx"],
-    )?;
-    let in_characters = first_in_characters(&words, text.chars());
-    Ok(
-        is_first(in_bytes, expected)
-            && bytes == left.as_bytes()
-            && out.as_slice() == named.as_bytes()
-            && count == named.bytes().filter(|byte| *byte == b'[').count()
-            && is_first(in_characters, expected),
-    )
+    name_matches(&over_bytes(alloc)?, alloc, text.as_bytes(), &mut out)?;
+    Ok(out.as_slice() == named.as_bytes())
+}
+
+/// Whether there are as many matches in bytes that are read as in a row.
+fn are_counted(alloc: Global, row: &StreamRow) -> io::Result<bool> {
+    let (text, _, _, named) = *row;
+    let count = count_in_reader(&over_bytes(alloc)?, alloc, text.as_bytes())?;
+    Ok(count == named.bytes().filter(|byte| *byte == b'[').count())
+}
+
+/// Whether the first match in characters that come one by one is that of a row.
+fn is_first_given(alloc: Global, row: &StreamRow) -> Result<bool> {
+    let (text, expected, _, _) = *row;
+    let words: Charwise = CharwiseDoubleArrayAhoCorasick::new(alloc, ["abcd", "bx"])?;
+    Ok(is_first(first_in_characters(&words, text.chars()), expected))
 }
 
 #[test]
 fn streams_are_searched(rt: HostRuntime) -> Result<(), Fail> {
     for row in STREAM_ROWS {
-        let holds = row_holds(rt.alloc(), row)?;
-        assert!(&rt; holds, "{}", row.0);
+        expect(&rt, is_first_read(rt.alloc(), row)?, row.0);
+        expect(&rt, are_named(rt.alloc(), row)?, row.0);
+        expect(&rt, are_counted(rt.alloc(), row)?, row.0);
+        expect(&rt, is_first_given(rt.alloc(), row)?, row.0);
     }
     Ok(())
 }
@@ -88,8 +109,7 @@ fn is_redacted(alloc: Global, log: &str, expected: &str) -> io::Result<bool> {
 #[test]
 fn logs_are_redacted(rt: HostRuntime) -> Result<(), Fail> {
     for (log, expected) in LOGS {
-        let holds = is_redacted(rt.alloc(), log, expected)?;
-        assert!(&rt; holds, "{log}");
+        expect(&rt, is_redacted(rt.alloc(), log, expected)?, log);
     }
     Ok(())
 }

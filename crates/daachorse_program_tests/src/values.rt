@@ -1,18 +1,19 @@
 //! Indexes as values: one that the type cannot hold is refused, and `Empty` holds each.
 
+ghost use Rattle.std.specs.Iterator.{IsFinite};
 ghost use Rattle.std.specs.Prelude.{◌≡◌};
 ghost use Rattle.daachorse_model.specs.declared.MatchKind.TheVariants.{Standard};
 
 use crate::expect;
-use daachorse::{DoubleArrayAhoCorasick, Empty, Result};
+use daachorse::{DoubleArrayAhoCorasick, Empty, Match, Result};
 use std::alloc::Global;
 use std::test::Fail;
 
-/// Whether the matches in a haystack of one letter have the values 0 to 255 in turn.
-fn has_each_byte(automaton: &DoubleArrayAhoCorasick<u8>) -> bool
-    requires { automaton.now.parts.kind ≡ Standard }
+/// Whether matches have the values 0 to 255 in turn.
+fn is_each_byte<I: Iterator<Item = Match<u8>> + Drop>(mut search: I) -> bool
+    requires can { (s : I) → I.can_next s }
+    requires ends { IsFinite (I.remaining search) }
 {
-    let mut search = automaton.find_overlapping_iter(b"a");
     for value in 0..=255u8 {
         match search.next() {
             Some(found) if found.value() == value => {}
@@ -20,6 +21,13 @@ fn has_each_byte(automaton: &DoubleArrayAhoCorasick<u8>) -> bool
         }
     }
     search.next().is_none()
+}
+
+/// Whether the matches in a haystack of one letter have the values 0 to 255 in turn.
+fn has_each_byte(automaton: &DoubleArrayAhoCorasick<u8>) -> bool
+    requires { automaton.now.parts.kind ≡ Standard }
+{
+    is_each_byte(automaton.find_overlapping_iter(b"a"))
 }
 
 /// Whether 256 equal patterns have the values 0 to 255 in turn.
@@ -41,17 +49,24 @@ fn an_index_without_a_value_is_refused(rt: HostRuntime) -> Result<(), Fail> {
     Ok(())
 }
 
-/// Whether exactly 300 matches are found in a haystack of one letter.
-fn has_300(automaton: &DoubleArrayAhoCorasick<Empty>) -> bool
-    requires { automaton.now.parts.kind ≡ Standard }
+/// Whether there are exactly 300 matches.
+fn are_300<I: Iterator<Item = Match<Empty>> + Drop>(mut search: I) -> bool
+    requires can { (s : I) → I.can_next s }
+    requires ends { IsFinite (I.remaining search) }
 {
-    let mut search = automaton.find_overlapping_iter(b"a");
     for _ in 0..300u32 {
         if search.next().is_none() {
             return false;
         }
     }
     search.next().is_none()
+}
+
+/// Whether exactly 300 matches are found in a haystack of one letter.
+fn has_300(automaton: &DoubleArrayAhoCorasick<Empty>) -> bool
+    requires { automaton.now.parts.kind ≡ Standard }
+{
+    are_300(automaton.find_overlapping_iter(b"a"))
 }
 
 #[test]

@@ -1,40 +1,38 @@
-//! Tests of the automata through the public paths of `daachorse`: what is built, found, written,
-//! read and refused.
+//! Tests of the automata that are no rows of a table: calls that are refused memory, readers and
+//! writers that fail, what is asked behind its end, and automata that are told apart.
 //!
 //! Functions are short and each search is begun in one place, which keeps the proofs short.
 #![tactic(auto)]
 
 #[cfg(test)]
-mod accelerated;
-#[cfg(test)]
 mod automata;
+#[cfg(test)]
+mod blocks;
 #[cfg(test)]
 mod bytewise;
 #[cfg(test)]
-mod changed;
-#[cfg(test)]
 mod charwise;
 #[cfg(test)]
-mod listing;
+mod copies;
 #[cfg(test)]
-mod lookups;
+mod ends;
 #[cfg(test)]
-mod plain;
+mod finding;
 #[cfg(test)]
-mod raw_bytes;
-#[cfg(test)]
-mod replaced;
+mod readers;
 #[cfg(test)]
 mod requests;
 #[cfg(test)]
 mod room;
 #[cfg(test)]
-mod searches;
+mod rows;
 #[cfg(test)]
-mod written;
+mod steppers;
+#[cfg(test)]
+mod values;
+#[cfg(test)]
+mod writers;
 
-#[cfg(test)]
-use std::hash::{DefaultHasher, Hash, Hasher};
 #[cfg(test)]
 use std::process::Abort;
 
@@ -48,17 +46,4 @@ fn expect(rt: &impl Abort, holds: bool, what: &str) {
 #[cfg(test)]
 fn expect_over(rt: &impl Abort, holds: bool, what: &str, units: &str) {
     assert!(rt; holds, "{what}, over {units}");
-}
-
-/// Aborts with `what`, the place and the byte unless `holds`.
-#[cfg(test)]
-fn expect_at(rt: &impl Abort, holds: bool, what: &str, place: usize, byte: u8) {
-    assert!(rt; holds, "{what}: byte {place} ({byte})");
-}
-
-#[cfg(test)]
-fn hash_of<T: Hash>(value: &T) -> u64 {
-    let mut state = DefaultHasher::new();
-    value.hash(&mut state);
-    state.finish()
 }

@@ -1,109 +1,94 @@
 //! Runs out of memory at each allocation of each call: it returns that error and changes nothing.
 
-use crate::automata::{Automaton, Bytewise, Charwise, PATVALS, Plainly, made};
+use crate::automata::{
+    Automaton, BUILT, Bytewise, Charwise, FIRST, LISTED, LONGEST, PATVALS, Patvals, Plainly, Way,
+    or_refused,
+};
 use crate::expect_over;
+use daachorse::Result;
 use daachorse::errors::DaachorseError;
-use daachorse::{MatchKind, Result};
-use daachorse_expected::rows::{BUILT, BY_CORPUS, Patvals, READ_BACK, READ_UNCHECKED, Search, Way};
 use refusing::{Answer, Call, Refusing, each_request};
 use std::alloc::Global;
+use std::io;
 
 /// A call that allocates, after the build that it needs.
 #[derive(Clone, Copy)]
 enum Request {
     Plainly(Plainly),
-    /// A build, followed by a write and a read if the way says so.
-    Made(Way),
+    Built,
     ManyCharacters,
+    /// A write, and a read that checks or does not.
+    Read(bool),
     Clone,
     CacheDepths,
     Accelerate,
     Replace,
     ReplaceWith,
-    Stream,
+    ReplaceFromReader,
+    SearchReader,
 }
 
-/// The calls, each with its name and a kind.
-const REQUESTS: [(&str, MatchKind, Request); 20] = [
-    ("new", MatchKind::Standard, Request::Plainly(Plainly::New)),
-    (
-        "with_values",
-        MatchKind::Standard,
-        Request::Plainly(Plainly::WithValues),
-    ),
-    (
-        "build",
-        MatchKind::Standard,
-        Request::Plainly(Plainly::Build),
-    ),
+/// The options of [`BUILT`], with a corpus.
+const BY_CORPUS: Way = Way {
+    by_corpus: true,
+    ..BUILT
+};
+
+/// The calls, each with its name and a way to build.
+const REQUESTS: [(&str, Way, Request); 22] = [
+    ("new", BUILT, Request::Plainly(Plainly::New)),
+    ("with_values", BUILT, Request::Plainly(Plainly::WithValues)),
+    ("build", BUILT, Request::Plainly(Plainly::Build)),
     (
         "build by a corpus",
-        MatchKind::Standard,
+        BUILT,
         Request::Plainly(Plainly::BuildByCorpus),
     ),
-    (
-        "build_with_values",
-        MatchKind::Standard,
-        Request::Made(BUILT),
-    ),
-    (
-        "build_with_values by a corpus",
-        MatchKind::Standard,
-        Request::Made(BY_CORPUS),
-    ),
-    (
-        "a write and a read",
-        MatchKind::Standard,
-        Request::Made(READ_BACK),
-    ),
-    (
-        "a write and a read that does not check",
-        MatchKind::Standard,
-        Request::Made(READ_UNCHECKED),
-    ),
+    ("build_with_values", BUILT, Request::Built),
+    ("build_with_values by a corpus", BY_CORPUS, Request::Built),
     (
         "a build with many characters",
-        MatchKind::Standard,
+        BUILT,
         Request::ManyCharacters,
-    ),
-    ("a clone", MatchKind::Standard, Request::Clone),
-    ("cache_depths", MatchKind::Standard, Request::CacheDepths),
-    ("accelerate", MatchKind::Standard, Request::Accelerate),
-    ("replace_all", MatchKind::Standard, Request::Replace),
-    (
-        "replace_all_with",
-        MatchKind::Standard,
-        Request::ReplaceWith,
-    ),
-    (
-        "leftmost_stream",
-        MatchKind::LeftmostLongest,
-        Request::Stream,
-    ),
-    (
-        "a read for the longest",
-        MatchKind::LeftmostLongest,
-        Request::Made(READ_BACK),
-    ),
-    (
-        "a read for the longest that does not check",
-        MatchKind::LeftmostLongest,
-        Request::Made(READ_UNCHECKED),
     ),
     (
         "a build for the longest with many characters",
-        MatchKind::LeftmostLongest,
+        LONGEST,
         Request::ManyCharacters,
     ),
+    ("a write and a read", BUILT, Request::Read(true)),
     (
-        "a read for the first",
-        MatchKind::LeftmostFirst,
-        Request::Made(READ_BACK),
+        "a write and a read that does not check",
+        BUILT,
+        Request::Read(false),
     ),
+    ("a read for the longest", LONGEST, Request::Read(true)),
+    (
+        "a read for the longest that does not check",
+        LONGEST,
+        Request::Read(false),
+    ),
+    ("a read for the first", FIRST, Request::Read(true)),
     (
         "a read for the first that does not check",
-        MatchKind::LeftmostFirst,
-        Request::Made(READ_UNCHECKED),
+        FIRST,
+        Request::Read(false),
+    ),
+    ("a clone", BUILT, Request::Clone),
+    ("cache_depths", BUILT, Request::CacheDepths),
+    ("accelerate", BUILT, Request::Accelerate),
+    ("replace_all", BUILT, Request::Replace),
+    ("replace_all_with", BUILT, Request::ReplaceWith),
+    ("replace_all_from_reader", BUILT, Request::ReplaceFromReader),
+    (
+        "find_overlapping_iter_from_reader",
+        BUILT,
+        Request::SearchReader,
+    ),
+    (
+        "leftmost_stream_from_reader",
+        LONGEST,
+        Request::SearchReader,
     ),
 ];
 
@@ -115,9 +100,6 @@ fn answer_of(outcome: &Result<bool>) -> Answer {
         _ => Answer::Wrong,
     }
 }
-
-/// `PATVALS` in the order of a listing.
-const LISTED: Patvals = &[("ab", 2), ("abc", 1), ("bcd", 0)];
 
 const MANY_CHARACTERS: Patvals = &[
     ("世界", 0),
@@ -138,79 +120,91 @@ fn caches<S: Automaton>(automaton: &mut S) -> Result<bool> {
     }
 }
 
-/// Whether a call on an automaton of `PATVALS` for this kind returns what it should.
-fn gives_of_built<S: Automaton>(
-    alloc: S::Alloc,
-    kind: MatchKind,
-    request: Request,
-) -> Result<bool> {
-    let mut automaton = S::built(alloc, BUILT, kind, &PATVALS)?;
+const TEXT: &str = "xabcbcd";
+
+/// Whether a replacement of what a reader gives writes what it should.
+fn replaces_read<S: Automaton>(alloc: S::Alloc, automaton: &S) -> io::Result<bool> {
+    let mut out = Vec::new(alloc);
+    automaton.brackets(alloc, TEXT.as_bytes(), &mut out)?;
+    Ok(out.as_slice() == b"x[ab]c[bcd]".as_slice())
+}
+
+/// Whether a search of what a reader gives finds what it should.
+fn searches_read<S: Automaton>(alloc: S::Alloc, automaton: &S, way: Way) -> io::Result<bool> {
+    let reader = TEXT.as_bytes();
+    if way.kind.is_standard() {
+        let expected = [(1, 3, 2), (1, 4, 1), (4, 7, 0)];
+        return automaton.reads(alloc, reader, &expected, None);
+    }
+    automaton.reads_leftmost(alloc, reader, &[(1, 4, 1), (4, 7, 0)], None)
+}
+
+/// Whether a call on an automaton of `PATVALS` that is built in this way returns what it should.
+fn gives_of_built<S: Automaton>(alloc: S::Alloc, way: Way, request: Request) -> Result<bool> {
+    let mut automaton = S::built(alloc, way, &PATVALS)?;
     match request {
+        Request::Read(is_checked) => { Ok(automaton.read_back(alloc, is_checked)? == automaton) }
         Request::Clone => Ok(automaton.cloned()? == automaton),
         Request::CacheDepths => caches(&mut automaton),
-        Request::Accelerate => {
-            automaton.finds_with_rows(alloc, Search::Standard, "xabcd", &[(1, 3, 2)])
-        }
-        Request::Stream => automaton.streams(alloc, "xabcbcd", &[(1, 4, 1), (4, 7, 0)]),
-        Request::ReplaceWith => {
-            let bracketed = automaton.bracketed(alloc, "xabcbcd")?;
-            Ok(bracketed.as_slice() == b"x[ab]c[bcd]".as_slice())
-        }
-        _ => {
-            let replaced = automaton.replaced(alloc, "xabcbcd")?;
+        Request::Accelerate => automaton.accelerates(alloc),
+        Request::Replace => {
+            let replaced = automaton.replaced(alloc, TEXT)?;
             Ok(replaced.as_slice() == b"xabc-".as_slice())
         }
+        Request::ReplaceWith => {
+            let bracketed = automaton.bracketed(alloc, TEXT)?;
+            Ok(bracketed.as_slice() == b"x[ab]c[bcd]".as_slice())
+        }
+        Request::ReplaceFromReader => or_refused(replaces_read(alloc, &automaton)),
+        Request::SearchReader => or_refused(searches_read(alloc, &automaton, way)),
+        _ => automaton.lists(alloc, LISTED),
     }
 }
 
 /// Whether a call returns what it should.
-fn gives<S: Automaton>(alloc: S::Alloc, kind: MatchKind, request: Request) -> Result<bool> {
+fn gives<S: Automaton>(alloc: S::Alloc, way: Way, request: Request) -> Result<bool> {
     match request {
         Request::Plainly(how) => S::built_plainly(alloc, how)?.lists(alloc, LISTED),
-        Request::Made(way) => {
-            let automaton: S = made(alloc, way, kind, &PATVALS)?;
-            automaton.lists(alloc, LISTED)
-        }
         Request::ManyCharacters => {
-            let automaton = S::built(alloc, BUILT, kind, MANY_CHARACTERS)?;
-            Ok(automaton.kind().0 == kind)
+            let automaton = S::built(alloc, way, MANY_CHARACTERS)?;
+            Ok(automaton.cloned()? == automaton)
         }
-        _ => gives_of_built::<S>(alloc, kind, request),
+        _ => gives_of_built::<S>(alloc, way, request),
     }
 }
 
-/// A call over bytes, for one kind.
+/// A call over bytes, after a build in this way.
 #[derive(Clone, Copy)]
 struct OverBytes {
-    kind: MatchKind,
+    way: Way,
     request: Request,
 }
 
 impl Call for OverBytes {
     fn answer(&self, heap: &Refusing<Global>) -> Answer {
-        answer_of(&gives::<Bytewise<&Refusing<Global>>>(heap, self.kind, self.request))
+        answer_of(&gives::<Bytewise<&Refusing<Global>>>(heap, self.way, self.request))
     }
 }
 
-/// A call over characters, for one kind.
+/// A call over characters, after a build in this way.
 #[derive(Clone, Copy)]
 struct OverCharacters {
-    kind: MatchKind,
+    way: Way,
     request: Request,
 }
 
 impl Call for OverCharacters {
     fn answer(&self, heap: &Refusing<Global>) -> Answer {
-        answer_of(&gives::<Charwise<&Refusing<Global>>>(heap, self.kind, self.request))
+        answer_of(&gives::<Charwise<&Refusing<Global>>>(heap, self.way, self.request))
     }
 }
 
 #[test]
 fn each_request_may_be_refused(rt: HostRuntime) {
-    for (shows, kind, request) in REQUESTS {
-        let holds = each_request(rt.alloc(), &OverBytes { kind, request });
+    for (shows, way, request) in REQUESTS {
+        let holds = each_request(rt.alloc(), &OverBytes { way, request });
         expect_over(&rt, holds, shows, "bytes");
-        let holds = each_request(rt.alloc(), &OverCharacters { kind, request });
+        let holds = each_request(rt.alloc(), &OverCharacters { way, request });
         expect_over(&rt, holds, shows, "characters");
     }
 }

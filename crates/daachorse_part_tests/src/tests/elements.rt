@@ -6,6 +6,7 @@ use daachorse_bytewise_states::state::State;
 use daachorse_charwise_states::state::State as CharacterState;
 use daachorse_core::Empty;
 use daachorse_core::errors::Result;
+use std::alloc::Global;
 use std::num::NonZeroU32;
 use std::test::Fail;
 
@@ -87,16 +88,22 @@ fn a_child_names_its_parent(rt: HostRuntime) {
     expect(&rt, vacant.child(0, 1, &elements).is_none(), "no base");
 }
 
-#[test]
-fn elements_have_their_forms(rt: HostRuntime) -> Result<(), Fail> {
-    let alloc = rt.alloc();
+/// Whether elements are written as they should be.
+fn have_forms(alloc: Global) -> Result<bool> {
     let linked = element(101, 98, 7, 2)?;
-    has_form(&rt, alloc, linked, &[101, 0, 0, 0, 7, 0, 0, 0, 98, 2, 0, 0])?;
-    let rest = linked.without_link();
-    has_form(&rt, alloc, rest, &[101, 0, 0, 0, 98, 2, 0, 0])?;
     let filled = character_element(0x0123_4567, 0x89ab_cdef, 0x0246_8ace, 5);
     let form = [
         0x67, 0x45, 0x23, 0x01, 0xef, 0xcd, 0xab, 0x89, 0xce, 0x8a, 0x46, 0x02, 5, 0, 0, 0,
     ];
-    has_form(&rt, alloc, filled, &form)
+    Ok(
+        has_form(alloc, &linked, &[101, 0, 0, 0, 7, 0, 0, 0, 98, 2, 0, 0])?
+            && has_form(alloc, &linked.without_link(), &[101, 0, 0, 0, 98, 2, 0, 0])?
+            && has_form(alloc, &filled, &form)?,
+    )
+}
+
+#[test]
+fn elements_have_their_forms(rt: HostRuntime) -> Result<(), Fail> {
+    expect(&rt, have_forms(rt.alloc())?, "the forms");
+    Ok(())
 }

@@ -15,71 +15,88 @@ fn prints<E: Display>(alloc: Global, value: &E, text: &str) -> Result<bool, Allo
     Ok(printed.as_str() == text)
 }
 
-const ARGUMENT: &str = "InvalidArgumentError: pattern.len() must be <= 4294967295";
+/// What an error tells.
+#[derive(Clone, Copy)]
+enum Cause {
+    Argument,
+    Conversion,
+    Automaton,
+    Memory,
+    Scale(Limit),
+}
 
-const CONVERSION: &str = "InvalidConversionError: index cannot be converted to V";
-
-const AUTOMATON: &str = "InvalidAutomatonError: invalid serialized automaton";
-
-const MEMORY: &str = "OutOfMemoryError: memory allocation failed";
-
-/// The limits, and the texts of their errors.
-const LIMITS: [(Limit, &str); 5] = [
+/// Causes, and the texts of their errors.
+const CAUSES: [(Cause, &str); 9] = [
     (
-        Limit::PatternValues,
+        Cause::Argument,
+        "InvalidArgumentError: pattern.len() must be <= 4294967295",
+    ),
+    (
+        Cause::Conversion,
+        "InvalidConversionError: index cannot be converted to V",
+    ),
+    (
+        Cause::Automaton,
+        "InvalidAutomatonError: invalid serialized automaton",
+    ),
+    (Cause::Memory, "OutOfMemoryError: memory allocation failed"),
+    (
+        Cause::Scale(Limit::PatternValues),
         "AutomatonScaleError: patvals.len() must be <= 16777215",
     ),
     (
-        Limit::StateId,
+        Cause::Scale(Limit::StateId),
         "AutomatonScaleError: state_id must be <= 4294967295",
     ),
     (
-        Limit::NumElements,
+        Cause::Scale(Limit::NumElements),
         "AutomatonScaleError: num_elements must be <= 4294967295",
     ),
     (
-        Limit::Outputs,
+        Cause::Scale(Limit::Outputs),
         "AutomatonScaleError: outputs.len() must be <= 4294967295",
     ),
     (
-        Limit::OutputPos,
+        Cause::Scale(Limit::OutputPos),
         "AutomatonScaleError: output_pos must be <= 16777215",
     ),
 ];
 
-#[test]
-fn each_error_has_its_text(rt: HostRuntime) -> Result<(), Fail> {
-    let rows = [
-        (DaachorseError::invalid_argument(), ARGUMENT),
-        (DaachorseError::invalid_conversion(), CONVERSION),
-        (DaachorseError::invalid_automaton(), AUTOMATON),
-        (DaachorseError::from(AllocError), MEMORY),
-    ];
-    for (error, text) in &rows {
-        expect(&rt, prints(rt.alloc(), error, text)?, text);
+/// The error of a cause.
+fn error_of(cause: Cause) -> DaachorseError {
+    match cause {
+        Cause::Argument => DaachorseError::invalid_argument(),
+        Cause::Conversion => DaachorseError::invalid_conversion(),
+        Cause::Automaton => DaachorseError::invalid_automaton(),
+        Cause::Memory => DaachorseError::from(AllocError),
+        Cause::Scale(limit) => DaachorseError::automaton_scale(limit),
     }
-    for (limit, text) in &LIMITS {
-        let error = DaachorseError::automaton_scale(*limit);
-        expect(&rt, prints(rt.alloc(), &error, text)?, text);
+}
+
+/// Whether the struct of a cause is printed as this text.
+fn is_printed(alloc: Global, cause: Cause, text: &str) -> Result<bool, AllocError> {
+    match cause {
+        Cause::Argument => prints(alloc, &InvalidArgumentError, text),
+        Cause::Conversion => prints(alloc, &InvalidConversionError, text),
+        Cause::Automaton => prints(alloc, &InvalidAutomatonError, text),
+        Cause::Memory => prints(alloc, &OutOfMemoryError, text),
+        Cause::Scale(limit) => prints(alloc, &AutomatonScaleError { limit }, text),
+    }
+}
+
+#[test]
+fn each_error_and_its_struct_have_their_text(rt: HostRuntime) -> Result<(), Fail> {
+    for (cause, text) in &CAUSES {
+        let is_error = prints(rt.alloc(), &error_of(*cause), text)?;
+        expect(&rt, is_error, text);
+        let is_struct = is_printed(rt.alloc(), *cause, text)?;
+        expect(&rt, is_struct, text);
     }
     Ok(())
 }
 
-/// Whether the structs of errors are printed like the errors.
-fn print_alike(alloc: Global) -> Result<bool, AllocError> {
-    let (limit, text) = LIMITS[4];
-    Ok(
-        prints(alloc, &AutomatonScaleError { limit }, text)?
-            && prints(alloc, &InvalidArgumentError, ARGUMENT)?
-            && prints(alloc, &InvalidConversionError, CONVERSION)?
-            && prints(alloc, &InvalidAutomatonError, AUTOMATON)?
-            && prints(alloc, &OutOfMemoryError, MEMORY)?,
-    )
-}
-
 #[test]
-fn each_struct_has_its_text(rt: HostRuntime) -> Result<(), Fail> {
-    expect(&rt, print_alike(rt.alloc())?, "the text");
+fn a_duplicate_pattern_has_its_text(rt: HostRuntime) -> Result<(), Fail> {
     let pattern = String::from_str(rt.alloc(), "ab")?;
     let duplicate = DuplicatePatternError { pattern };
     let text = "DuplicatePatternError: ab";

@@ -1,11 +1,8 @@
-//! Assertions that a value is written as exactly these bytes.
+//! Whether a value is written as exactly these bytes.
 
-use super::expect;
-use daachorse_core::errors::DaachorseError;
+use daachorse_core::errors::{DaachorseError, Result};
 use daachorse_serializer::serializer::{Serializable, SerializableVec};
 use std::alloc::Global;
-use std::process::Abort;
-use std::test::Fail;
 
 /// Whether these bytes are refused as no such value.
 pub fn lacks_bytes<S: Serializable>(bytes: &[u8]) -> bool {
@@ -15,31 +12,35 @@ pub fn lacks_bytes<S: Serializable>(bytes: &[u8]) -> bool {
     }
 }
 
-/// Asserts that a value is written as `form` and read back from it, whatever follows, and that each
-/// prefix that lacks a byte is refused.
+/// Whether each beginning that lacks a byte is refused as no such value.
+fn lacks_each_byte<S: Serializable>(form: &[u8]) -> bool {
+    for len in 0..form.len() {
+        if !lacks_bytes::<S>(&form[..len]) {
+            return false;
+        }
+    }
+    true
+}
+
+/// Whether a value is read from these bytes, and a byte that follows is left.
+fn is_read<S: Serializable + PartialEq>(value: &S, bytes: &[u8]) -> Result<bool> {
+    let (read, rest) = S::deserialize_from_slice(bytes)?;
+    Ok(read == *value && rest.len() == 1)
+}
+
+/// Whether a value is written as `form` and read back from it, whatever follows, and each beginning
+/// that lacks a byte is refused.
 pub fn has_form<S: Serializable + PartialEq>(
-    rt: &impl Abort,
     alloc: Global,
-    value: S,
+    value: &S,
     form: &[u8],
-) -> Result<(), Fail> {
+) -> Result<bool> {
     value.in_range();
     let mut bytes = Vec::new(alloc);
     value.serialize_to_vec(&mut bytes)?;
-    expect(rt, bytes.as_slice() == form, "what is written");
-    expect(
-        rt,
-        form.len() <= S::serialized_bytes(),
-        "the greatest length",
-    );
+    let is_written = bytes.as_slice() == form && form.len() <= S::serialized_bytes();
     bytes.push(42)?;
-    let (read, rest) = S::deserialize_from_slice(&bytes)?;
-    expect(rt, read == value, "what is read");
-    expect(rt, rest == [42].as_slice(), "what is left");
-    for len in 0..form.len() {
-        expect(rt, lacks_bytes::<S>(&form[..len]), "too few bytes");
-    }
-    Ok(())
+    Ok(is_written && is_read(value, &bytes)? && lacks_each_byte::<S>(form))
 }
 
 /// Whether these bytes are refused as no such value, for one that allocates.
@@ -50,30 +51,38 @@ pub fn is_refused<S: SerializableVec<Alloc = Global> + Drop>(alloc: Global, byte
     }
 }
 
-/// Does what [`has_form`] does, for a value that allocates.
+/// What [`lacks_each_byte`] says, for a value that allocates.
+fn is_each_refused<S: SerializableVec<Alloc = Global> + Drop>(alloc: Global, form: &[u8]) -> bool {
+    for len in 0..form.len() {
+        if !is_refused::<S>(alloc, &form[..len]) {
+            return false;
+        }
+    }
+    true
+}
+
+/// What [`is_read`] says, for a value that allocates.
+fn is_list_read<S: SerializableVec<Alloc = Global> + PartialEq + Drop>(
+    alloc: Global,
+    value: &S,
+    bytes: &[u8],
+) -> Result<bool> {
+    let (read, rest) = S::deserialize_from_slice(alloc, bytes)?;
+    Ok(read == *value && rest.len() == 1)
+}
+
+/// What [`has_form`] says, for a value that allocates.
 pub fn has_list_form<S: SerializableVec<Alloc = Global> + PartialEq + Drop>(
-    rt: &impl Abort,
     alloc: Global,
     value: &S,
     form: &[u8],
-) -> Result<(), Fail>
+) -> Result<bool>
     requires { S.can_write (S.shape value.now) }
 {
     value.in_range();
     let mut bytes = Vec::new(alloc);
     value.serialize_to_vec(&mut bytes)?;
-    expect(rt, bytes.as_slice() == form, "what is written");
-    expect(
-        rt,
-        value.serialized_bytes() == form.len(),
-        "the greatest length",
-    );
+    let is_written = bytes.as_slice() == form && value.serialized_bytes() == form.len();
     bytes.push(42)?;
-    let (read, rest) = S::deserialize_from_slice(alloc, &bytes)?;
-    expect(rt, read == *value, "what is read");
-    expect(rt, rest == [42].as_slice(), "what is left");
-    for len in 0..form.len() {
-        expect(rt, is_refused::<S>(alloc, &form[..len]), "too few bytes");
-    }
-    Ok(())
+    Ok(is_written && is_list_read(alloc, value, &bytes)? && is_each_refused::<S>(alloc, form))
 }

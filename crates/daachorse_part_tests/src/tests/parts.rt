@@ -68,9 +68,16 @@ fn kinds_are_bytes_and_told_apart(rt: HostRuntime) {
     for (byte, kind, leftmost, first) in &KINDS {
         let same = MatchKind::from(*byte) == *kind && u8::from(*kind) == *byte;
         expect(&rt, same, "the byte");
-        expect(&rt, kind.is_leftmost() == *leftmost, "leftmost");
-        expect(&rt, kind.is_standard() != *leftmost, "standard");
-        expect(&rt, kind.is_leftmost_first() == *first, "leftmost first");
+        let told = (
+            kind.is_standard(),
+            kind.is_leftmost(),
+            kind.is_leftmost_first(),
+        );
+        expect(&rt, told == (!*leftmost, *leftmost, *first), "the kind");
+    }
+    for byte in 3..=255u8 {
+        let is_standard = MatchKind::from(byte) == MatchKind::Standard;
+        expect(&rt, is_standard, "any other byte");
     }
 }
 

@@ -18,32 +18,55 @@ fn is_refused<S: SerializableVec + Drop>(alloc: S::Alloc, bytes: &[u8]) -> bool 
     }
 }
 
+/// The greatest count.
+const NUMBER: [u8; 4] = [255, 255, 255, 255];
+
 /// The greatest count, and as many bytes as an item or two take.
 const COUNTED: [u8; 20] = [
     255, 255, 255, 255, 0, 0, 0, 0, 0, 0, 0, 0, 0, 0, 0, 0, 0, 0, 0, 0,
 ];
 
-#[test]
-fn a_count_asks_for_no_room(rt: HostRuntime) {
-    let heap = Refusing::above(rt.alloc(), 1024);
-    for len in [4, 20] {
-        let bytes = &COUNTED[..len];
-        let holds = is_refused::<Vec<u8, &Refusing<Global>>>(&heap, bytes);
-        expect(&rt, holds, "a list of bytes");
-        let holds = is_refused::<Vec<u32, &Refusing<Global>>>(&heap, bytes);
-        expect(&rt, holds, "a list of numbers");
-        let holds = is_refused::<Vec<Output<u128>, &Refusing<Global>>>(&heap, bytes);
-        expect(&rt, holds, "a list of outputs");
-        let holds = is_refused::<CodeMapper<&Refusing<Global>>>(&heap, bytes);
-        expect(&rt, holds, "a table of codes");
+/// What is read.
+#[derive(Clone, Copy)]
+enum Counted {
+    Bytes,
+    Numbers,
+    Outputs,
+    Codes,
+    Table,
+    Filter,
+}
+
+/// What is read, its name, and the bytes.
+const ROWS: [(Counted, &str, &[u8]); 10] = [
+    (Counted::Bytes, "a count of bytes", &NUMBER),
+    (Counted::Bytes, "a list of bytes", &COUNTED),
+    (Counted::Numbers, "a count of numbers", &NUMBER),
+    (Counted::Numbers, "a list of numbers", &COUNTED),
+    (Counted::Outputs, "a count of outputs", &NUMBER),
+    (Counted::Outputs, "a list of outputs", &COUNTED),
+    (Counted::Codes, "a count of codes", &NUMBER),
+    (Counted::Codes, "a table of codes", &COUNTED),
+    (Counted::Table, "a table", &COUNTED),
+    (Counted::Filter, "a filter", &[1, 4, 255, 255]),
+];
+
+/// Whether the bytes of a row are refused.
+fn holds(heap: &Refusing<Global>, of: Counted, bytes: &[u8]) -> bool {
+    match of {
+        Counted::Bytes => is_refused::<Vec<u8, &Refusing<Global>>>(heap, bytes),
+        Counted::Numbers => is_refused::<Vec<u32, &Refusing<Global>>>(heap, bytes),
+        Counted::Outputs => is_refused::<Vec<Output<u128>, &Refusing<Global>>>(heap, bytes),
+        Counted::Codes => is_refused::<CodeMapper<&Refusing<Global>>>(heap, bytes),
+        Counted::Table => is_refused::<Table<u32, 0xffff_ffff, &Refusing<Global>>>(heap, bytes),
+        Counted::Filter => is_refused::<Option<Prefilter<&Refusing<Global>>>>(heap, bytes),
     }
 }
 
 #[test]
-fn a_table_asks_for_no_room(rt: HostRuntime) {
+fn a_count_asks_for_no_room(rt: HostRuntime) {
     let heap = Refusing::above(rt.alloc(), 1024);
-    let holds = is_refused::<Table<u32, 0xffff_ffff, &Refusing<Global>>>(&heap, &COUNTED);
-    expect(&rt, holds, "a table");
-    let holds = is_refused::<Option<Prefilter<&Refusing<Global>>>>(&heap, &[1, 4, 255, 255]);
-    expect(&rt, holds, "a filter");
+    for (of, name, bytes) in ROWS {
+        expect(&rt, holds(&heap, of, bytes), name);
+    }
 }

@@ -1,6 +1,0 @@
--- The stepper that stood is one over the same rows.
-use Rattle.std.proofs.Common.{◌∙◌}
-use Rattle.daachorse_stream_tests.proofs.steppers.is_resumed_over_rows.Goals as goal
-
-pub resume_find_stepper-resumed-requires-clause-stands : goal.resume_find_stepper-resumed-requires-clause-stands
-resume_find_stepper-resumed-requires-clause-stands c = rw (c.consume.ensures.automaton ∙ c.find_stepper-stepper.ensures.automaton) at c.into_standing.ensures.stands

@@ -1,6 +1,8 @@
-/* Calls that the table of rows has no form for: lookups, options, kinds, counts, replacements, and
- * what a caller may pass. Each row of a table here gives what the call must do. */
+/* Calls that the table of rows has no form for: lookups, options, kinds, counts, replacements, calls
+ * that pass each match on, and what a caller may pass. Each row of a table here gives what the call must do. */
 #include "daachorse.h"
+
+#include "each.h"
 
 #include <stdio.h>
 #include <stdlib.h>
@@ -307,6 +309,128 @@ static void see_certain(void) {
         }
 }
 
+/* An automaton of these patterns, each ended by a comma, with the values 0, 1, 2 and so on. */
+static void build_of(daachorse *handle, uint32_t kind, const char *patterns, size_t row) {
+    uint8_t bytes[ROOM];
+    size_t ends[ROOM], size = 0, count = 0;
+    uint32_t values[ROOM];
+    for (; *patterns != '\0'; patterns++)
+        if (*patterns == ',') {
+            ends[count] = size;
+            values[count] = (uint32_t)count;
+            count++;
+        } else {
+            bytes[size++] = (uint8_t)*patterns;
+        }
+    need(daachorse_build(handle, kind, true, false, bytes, size, ends, count, values, count) == DAACHORSE_DONE, "build", row);
+}
+
+/* What the calls that pass each match on do, whether and when they are asked to stop. */
+static void see_each(void) {
+    static const each_row rows[] = {
+        {DAACHORSE_STANDARD, "ab,abcd,bc,cd,", "abcdxab", daachorse_find_each, DAACHORSE_DONE, " 0-2=0 2-4=3 5-7=0"},
+        {DAACHORSE_STANDARD, "ab,abcd,bc,cd,", "abcdxab", stream_find_each, DAACHORSE_DONE, " 0-2=0 2-4=3 5-7=0"},
+        {DAACHORSE_STANDARD, "ab,abcd,bc,cd,", "abcdxab", daachorse_find_overlapping_each, DAACHORSE_DONE, " 0-2=0 1-3=2 0-4=1 2-4=3 5-7=0"},
+        {DAACHORSE_STANDARD, "ab,abcd,bc,cd,", "abcdxab", stream_overlapping_each, DAACHORSE_DONE, " 0-2=0 1-3=2 0-4=1 2-4=3 5-7=0"},
+        {DAACHORSE_STANDARD, "ab,abcd,bc,cd,", "abcdxab", daachorse_find_overlapping_no_suffix_each, DAACHORSE_DONE, " 0-2=0 1-3=2 0-4=1 5-7=0"},
+        {DAACHORSE_STANDARD, "ab,abcd,bc,cd,", "abcdxab", stream_no_suffix_each, DAACHORSE_DONE, " 0-2=0 1-3=2 0-4=1 5-7=0"},
+        {DAACHORSE_STANDARD, "b,b,", "ab", daachorse_find_overlapping_each, DAACHORSE_DONE, " 1-2=0 1-2=1"},
+        {DAACHORSE_STANDARD, ",", "ab", daachorse_find_each, DAACHORSE_DONE, " 0-0=0 1-1=0 2-2=0"},
+        {DAACHORSE_STANDARD, ",", "", daachorse_find_each, DAACHORSE_DONE, " 0-0=0"},
+        {DAACHORSE_STANDARD, ",", "", daachorse_find_overlapping_each, DAACHORSE_DONE, " 0-0=0"},
+        {DAACHORSE_STANDARD, "", "ab", daachorse_find_overlapping_no_suffix_each, DAACHORSE_DONE, ""},
+        {DAACHORSE_STANDARD, "b,", "\x80" "b", daachorse_find_each, DAACHORSE_DONE, " 1-2=0"},
+        /* The end alone decides the last of these. */
+        {DAACHORSE_LEFTMOST_LONGEST, "ab,abcd,", "abxab", daachorse_find_each, DAACHORSE_DONE, " 0-2=0 3-5=0"},
+        {DAACHORSE_LEFTMOST_LONGEST, "ab,abcd,", "abxab", stream_leftmost_each, DAACHORSE_DONE, " 0-2=0 3-5=0"},
+        {DAACHORSE_LEFTMOST_LONGEST, "a,aaab,", "aaa", daachorse_find_each, DAACHORSE_DONE, " 0-1=0 1-2=0 2-3=0"},
+        {DAACHORSE_LEFTMOST_LONGEST, "a,aaab,", "aaa", stream_leftmost_each, DAACHORSE_DONE, " 0-1=0 1-2=0 2-3=0"},
+        {DAACHORSE_LEFTMOST_LONGEST, ",a,", "ba", daachorse_find_each, DAACHORSE_DONE, " 0-0=0 1-2=1"},
+        {DAACHORSE_LEFTMOST_LONGEST, ",a,", "ba", stream_leftmost_each, DAACHORSE_DONE, " 0-0=0 1-2=1"},
+        {DAACHORSE_LEFTMOST_LONGEST, ",", "", stream_leftmost_each, DAACHORSE_DONE, " 0-0=0"},
+        {DAACHORSE_LEFTMOST_FIRST, "abcd,ab,bc,", "abcdxab", daachorse_find_each, DAACHORSE_DONE, " 0-4=0 5-7=1"},
+        {DAACHORSE_LEFTMOST_FIRST, "abcd,ab,bc,", "abcdxab", stream_leftmost_each, DAACHORSE_DONE, " 0-4=0 5-7=1"},
+        {DAACHORSE_LEFTMOST_FIRST, "ab,abcd,cd,", "abcdxab", daachorse_find_each, DAACHORSE_DONE, " 0-2=0 2-4=2 5-7=0"},
+        {DAACHORSE_LEFTMOST_FIRST, "ab,abcd,cd,", "abcdxab", stream_leftmost_each, DAACHORSE_DONE, " 0-2=0 2-4=2 5-7=0"},
+        {DAACHORSE_LEFTMOST_FIRST, "ab,", "ab", daachorse_find_overlapping_each, DAACHORSE_WRONG_KIND, ""},
+        {DAACHORSE_LEFTMOST_LONGEST, "ab,", "ab", daachorse_find_overlapping_no_suffix_each, DAACHORSE_WRONG_KIND, ""},
+        {DAACHORSE_LEFTMOST_LONGEST, "ab,", "ab", stream_find_each, DAACHORSE_WRONG_KIND, ""},
+        {DAACHORSE_STANDARD, "ab,", "ab", stream_leftmost_each, DAACHORSE_WRONG_KIND, ""},
+        {DAACHORSE_STANDARD, "ab,", "ab", stream_unknown_each, DAACHORSE_UNKNOWN_SEARCH, ""},
+        {DAACHORSE_STANDARD, NULL, "ab", daachorse_find_each, DAACHORSE_EMPTY_HANDLE, ""},
+        {DAACHORSE_STANDARD, NULL, "ab", daachorse_find_overlapping_each, DAACHORSE_EMPTY_HANDLE, ""},
+        {DAACHORSE_STANDARD, NULL, "ab", daachorse_find_overlapping_no_suffix_each, DAACHORSE_EMPTY_HANDLE, ""},
+        {DAACHORSE_STANDARD, NULL, "ab", stream_leftmost_each, DAACHORSE_EMPTY_HANDLE, ""},
+    };
+    for (size_t i = 0; i < sizeof rows / sizeof *rows; i++)
+        for (size_t fast = 0; fast < 2; fast++) {
+            daachorse handle = DAACHORSE_EMPTY;
+            if (rows[i].patterns != NULL) {
+                build_of(&handle, rows[i].kind, rows[i].patterns, i);
+                if (fast)
+                    accelerate(&handle);
+            }
+            for (size_t stop = 0; stop <= 6; stop++)
+                need(is_each_row(&handle, &rows[i], stop), "the matches passed on", i);
+            daachorse_free(&handle);
+        }
+}
+
+/* The calls that pass each match on do so behind any number of matches, and leave a stream of the
+ * handle as it was. */
+static void see_many_passed_on(void) {
+    static const struct {
+        uint32_t kind;
+        each_fn *call;
+        size_t count;
+        daachorse_match part[5];
+    } rows[] = {
+        {DAACHORSE_STANDARD, daachorse_find_each, 2, {{0, 2, 0}, {2, 4, 4}}},
+        {DAACHORSE_STANDARD, stream_find_each, 2, {{0, 2, 0}, {2, 4, 4}}},
+        {DAACHORSE_STANDARD, daachorse_find_overlapping_each, 5, {{0, 2, 0}, {0, 2, 3}, {1, 3, 2}, {0, 4, 1}, {2, 4, 4}}},
+        {DAACHORSE_STANDARD, daachorse_find_overlapping_no_suffix_each, 3, {{0, 2, 0}, {1, 3, 2}, {0, 4, 1}}},
+        {DAACHORSE_LEFTMOST_LONGEST, daachorse_find_each, 1, {{0, 4, 1}}},
+        {DAACHORSE_LEFTMOST_LONGEST, stream_leftmost_each, 1, {{0, 4, 1}}},
+        {DAACHORSE_LEFTMOST_FIRST, daachorse_find_each, 2, {{0, 2, 0}, {2, 4, 4}}},
+        {DAACHORSE_LEFTMOST_FIRST, stream_leftmost_each, 2, {{0, 2, 0}, {2, 4, 4}}},
+    };
+    enum { PARTS = 1280 };
+    static const size_t stops[] = {0, 1, 63, 64, 65, 128, 129, 1279, 1280};
+    uint8_t haystack[4 * PARTS];
+    for (size_t i = 0; i < PARTS; i++)
+        memcpy(haystack + 4 * i, "abcd", 4);
+    for (size_t i = 0; i < sizeof rows / sizeof *rows; i++)
+        for (size_t j = 0; j < sizeof stops / sizeof *stops; j++) {
+            daachorse handle = DAACHORSE_EMPTY;
+            daachorse_match found[ROOM];
+            each_part wanted = {rows[i].part, rows[i].count, 4, stops[j], 0, false};
+            build(&handle, (daachorse_options){.kind = rows[i].kind});
+            need(daachorse_begin(&handle, rows[i].kind == DAACHORSE_STANDARD ? DAACHORSE_FIND : DAACHORSE_LEFTMOST) == DAACHORSE_DONE, "begin", i);
+            need(feed(&handle, "xa", 2, found, 0, i) == 0, "a stream before", i);
+            need(is_each_part(&handle, rows[i].call, haystack, PARTS, wanted), "many matches passed on", i);
+            need(feed(&handle, "b!", 2, found, 0, i) == 1 && found[0].start == 1, "a stream after", i);
+            daachorse_free(&handle);
+        }
+}
+
+/* More matches than the room of a call may be left at the end of a stream. */
+static void see_many_left(void) {
+    enum { LEFT = 200 };
+    uint8_t bytes[LEFT + 2];
+    const size_t ends[] = {1, LEFT + 2};
+    const uint32_t values[] = {0, 1};
+    const daachorse_match part = {0, 1, 0};
+    daachorse handle = DAACHORSE_EMPTY;
+    memset(bytes, 'a', LEFT + 1);
+    bytes[LEFT + 1] = 'b';
+    need(daachorse_build(&handle, DAACHORSE_LEFTMOST_LONGEST, true, false, bytes, LEFT + 2, ends, 2, values, 2) == DAACHORSE_DONE, "build", 0);
+    for (size_t stop = 0; stop <= LEFT; stop++) {
+        each_part wanted = {&part, 1, 1, stop, 0, false};
+        need(is_each_part(&handle, stream_leftmost_each, bytes, LEFT, wanted), "matches that are left", stop);
+    }
+    daachorse_free(&handle);
+}
+
 /* A handle may be moved, also with a stream. */
 static void see_moves(void) {
     daachorse first = DAACHORSE_EMPTY, second;
@@ -331,6 +455,9 @@ int main(void) {
     see_replacements();
     see_no_replacements();
     see_certain();
+    see_each();
+    see_many_passed_on();
+    see_many_left();
     see_moves();
     return 0;
 }

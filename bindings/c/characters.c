@@ -2,6 +2,8 @@
  * of a table here gives what the call must do. */
 #include "daachorse.h"
 
+#include "each.h"
+
 #include <stdio.h>
 #include <stdlib.h>
 #include <string.h>
@@ -219,6 +221,99 @@ static void see_wrong_bytes(void) {
     daachorse_free(&handle);
 }
 
+/* What the calls that pass each match on do with text and with bytes that are none, whether and when
+ * they are asked to stop. Only those by a stream pass on what comes before such bytes. */
+static void see_each(void) {
+    static const each_row rows[] = {
+        {DAACHORSE_STANDARD, "\xc3\xa9,\xe6\xbc\xa2z,", "a\xc3\xa9\xe6\xbc\xa2z", daachorse_find_each, DAACHORSE_DONE, " 1-3=0 3-7=1"},
+        {DAACHORSE_STANDARD, "\xc3\xa9,\xe6\xbc\xa2z,", "a\xc3\xa9\xe6\xbc\xa2z", stream_find_each, DAACHORSE_DONE, " 1-3=0 3-7=1"},
+        {DAACHORSE_STANDARD, "\xc3\xa9,\xc3\xa9\xe6\xbc\xa2,\xe6\xbc\xa2,", "\xc3\xa9\xe6\xbc\xa2", daachorse_find_overlapping_each, DAACHORSE_DONE, " 0-2=0 0-5=1 2-5=2"},
+        {DAACHORSE_STANDARD, "\xc3\xa9,\xc3\xa9\xe6\xbc\xa2,\xe6\xbc\xa2,", "\xc3\xa9\xe6\xbc\xa2", daachorse_find_overlapping_no_suffix_each, DAACHORSE_DONE, " 0-2=0 0-5=1"},
+        {DAACHORSE_STANDARD, ",", "a\xc3\xa9", daachorse_find_each, DAACHORSE_DONE, " 0-0=0 1-1=0 3-3=0"},
+        {DAACHORSE_STANDARD, ",", "a\xc3\xa9", daachorse_find_overlapping_each, DAACHORSE_DONE, " 0-0=0 1-1=0 3-3=0"},
+        {DAACHORSE_LEFTMOST_LONGEST, "\xe6\xbc\xa2,\xe6\xbc\xa2\xc3\xa9,", "\xe6\xbc\xa2\xc3\xa9\xe6\xbc\xa2", daachorse_find_each, DAACHORSE_DONE, " 0-5=1 5-8=0"},
+        {DAACHORSE_LEFTMOST_LONGEST, "\xe6\xbc\xa2,\xe6\xbc\xa2\xc3\xa9,", "\xe6\xbc\xa2\xc3\xa9\xe6\xbc\xa2", stream_leftmost_each, DAACHORSE_DONE, " 0-5=1 5-8=0"},
+        {DAACHORSE_LEFTMOST_FIRST, "\xe6\xbc\xa2\xc3\xa9,\xe6\xbc\xa2,", "\xe6\xbc\xa2\xc3\xa9\xe6\xbc\xa2", daachorse_find_each, DAACHORSE_DONE, " 0-5=0 5-8=1"},
+        {DAACHORSE_LEFTMOST_FIRST, "\xe6\xbc\xa2\xc3\xa9,\xe6\xbc\xa2,", "\xe6\xbc\xa2\xc3\xa9\xe6\xbc\xa2", stream_leftmost_each, DAACHORSE_DONE, " 0-5=0 5-8=1"},
+        {DAACHORSE_LEFTMOST_FIRST, ",", "\xe6\xbc\xa2", daachorse_find_each, DAACHORSE_DONE, " 0-0=0 3-3=0"},
+        {DAACHORSE_LEFTMOST_FIRST, ",", "\xe6\xbc\xa2", stream_leftmost_each, DAACHORSE_DONE, " 0-0=0 3-3=0"},
+        /* A text that is cut inside a character. */
+        {DAACHORSE_STANDARD, "\xc3\xa9,", "a\xc3\xa9\xc3", daachorse_find_each, DAACHORSE_INVALID_UTF8, ""},
+        {DAACHORSE_STANDARD, "\xc3\xa9,", "a\xc3\xa9\xc3", stream_find_each, DAACHORSE_INVALID_UTF8, " 1-3=0"},
+        {DAACHORSE_STANDARD, "a,\xc3\xa9,", "a\xc3\xa9\xc3", daachorse_find_overlapping_each, DAACHORSE_INVALID_UTF8, " 0-1=0 1-3=1"},
+        {DAACHORSE_STANDARD, "a,\xc3\xa9,", "a\xc3\xa9\xc3", daachorse_find_overlapping_no_suffix_each, DAACHORSE_INVALID_UTF8, " 0-1=0 1-3=1"},
+        {DAACHORSE_STANDARD, "a,", "\xe6\xbc", daachorse_find_overlapping_each, DAACHORSE_INVALID_UTF8, ""},
+        {DAACHORSE_LEFTMOST_LONGEST, "\xc3\xa9,\xc3\xa9\xe6\xbc\xa2,", "\xc3\xa9z\xc3\xa9\xe6\xbc", daachorse_find_each, DAACHORSE_INVALID_UTF8, ""},
+        {DAACHORSE_LEFTMOST_LONGEST, "\xc3\xa9,\xc3\xa9\xe6\xbc\xa2,", "\xc3\xa9z\xc3\xa9\xe6\xbc", stream_leftmost_each, DAACHORSE_INVALID_UTF8, " 0-2=0"},
+        {DAACHORSE_LEFTMOST_FIRST, "\xc3\xa9,\xc3\xa9\xe6\xbc\xa2,", "\xc3\xa9z\xc3\xa9\xe6\xbc", stream_leftmost_each, DAACHORSE_INVALID_UTF8, " 0-2=0 3-5=0"},
+        /* A byte with which no character begins, in the middle. */
+        {DAACHORSE_STANDARD, "\xc3\xa9,", "\xc3\xa9\xff\xc3\xa9", daachorse_find_each, DAACHORSE_INVALID_UTF8, ""},
+        {DAACHORSE_STANDARD, "\xc3\xa9,", "\xc3\xa9\xff\xc3\xa9", stream_find_each, DAACHORSE_INVALID_UTF8, " 0-2=0"},
+        {DAACHORSE_STANDARD, "\xc3\xa9,", "\xc3\xa9\xff\xc3\xa9", daachorse_find_overlapping_each, DAACHORSE_INVALID_UTF8, " 0-2=0"},
+        {DAACHORSE_STANDARD, "\xc3\xa9,", "\xc3\xa9\xc3z\xc3\xa9", daachorse_find_overlapping_no_suffix_each, DAACHORSE_INVALID_UTF8, " 0-2=0"},
+        {DAACHORSE_LEFTMOST_LONGEST, "\xc3\xa9,\xc3\xa9z,", "\xc3\xa9\xc3\xa9\xff\xc3\xa9", daachorse_find_each, DAACHORSE_INVALID_UTF8, ""},
+        {DAACHORSE_LEFTMOST_LONGEST, "\xc3\xa9,\xc3\xa9z,", "\xc3\xa9\xc3\xa9\xff\xc3\xa9", stream_leftmost_each, DAACHORSE_INVALID_UTF8, " 0-2=0"},
+        {DAACHORSE_LEFTMOST_FIRST, "\xc3\xa9,", "\xc3\xa9\xff\xc3\xa9", stream_leftmost_each, DAACHORSE_INVALID_UTF8, " 0-2=0"},
+        {DAACHORSE_STANDARD, "z,", "\xffz", stream_overlapping_each, DAACHORSE_INVALID_UTF8, ""},
+        {DAACHORSE_STANDARD, NULL, "\xc3\xa9", daachorse_find_each, DAACHORSE_EMPTY_HANDLE, ""},
+        {DAACHORSE_STANDARD, NULL, "\xff", stream_find_each, DAACHORSE_EMPTY_HANDLE, ""},
+    };
+    for (size_t i = 0; i < sizeof rows / sizeof *rows; i++)
+        for (size_t fast = 0; fast < 2; fast++) {
+            daachorse handle = DAACHORSE_EMPTY;
+            if (rows[i].patterns != NULL) {
+                need(build(&handle, (daachorse_options){.kind = rows[i].kind}, rows[i].patterns) == DAACHORSE_DONE, "build", i);
+                if (fast)
+                    accelerate(&handle);
+            }
+            for (size_t stop = 0; stop <= 4; stop++)
+                need(is_each_row(&handle, &rows[i], stop), "the matches passed on", i);
+            daachorse_free(&handle);
+        }
+}
+
+/* The calls that pass each match on do so behind any number of matches, and leave a stream of the
+ * handle as it was. */
+static void see_many_passed_on(void) {
+    static const char part[] = "\xe6\xbc\xa2\xc3\xa9z";
+    static const struct {
+        uint32_t kind;
+        each_fn *call;
+        size_t count;
+        daachorse_match part[4];
+    } rows[] = {
+        {DAACHORSE_STANDARD, daachorse_find_each, 3, {{0, 3, 0}, {3, 5, 1}, {5, 6, 3}}},
+        {DAACHORSE_STANDARD, stream_find_each, 3, {{0, 3, 0}, {3, 5, 1}, {5, 6, 3}}},
+        {DAACHORSE_STANDARD, daachorse_find_overlapping_each, 4, {{0, 3, 0}, {3, 5, 1}, {3, 6, 2}, {5, 6, 3}}},
+        {DAACHORSE_STANDARD, daachorse_find_overlapping_no_suffix_each, 3, {{0, 3, 0}, {3, 5, 1}, {3, 6, 2}}},
+        {DAACHORSE_LEFTMOST_LONGEST, daachorse_find_each, 2, {{0, 3, 0}, {3, 6, 2}}},
+        {DAACHORSE_LEFTMOST_LONGEST, stream_leftmost_each, 2, {{0, 3, 0}, {3, 6, 2}}},
+        {DAACHORSE_LEFTMOST_FIRST, daachorse_find_each, 3, {{0, 3, 0}, {3, 5, 1}, {5, 6, 3}}},
+        {DAACHORSE_LEFTMOST_FIRST, stream_leftmost_each, 3, {{0, 3, 0}, {3, 5, 1}, {5, 6, 3}}},
+    };
+    enum { PARTS = 1280 };
+    /* daachorse_find_each has room for 64 matches, and then for one for each 64 bytes. */
+    static const size_t stops[] = {0, 1, 63, 64, 65, 183, 184, 185, 304, 305, 2559, 2560};
+    uint8_t haystack[6 * PARTS];
+    for (size_t i = 0; i < PARTS; i++)
+        memcpy(haystack + 6 * i, part, 6);
+    for (size_t i = 0; i < sizeof rows / sizeof *rows; i++)
+        for (size_t j = 0; j < sizeof stops / sizeof *stops; j++) {
+            daachorse handle = DAACHORSE_EMPTY;
+            daachorse_match found[ROOM];
+            size_t taken, written;
+            each_part wanted = {rows[i].part, rows[i].count, 6, stops[j], 0, false};
+            need(build(&handle, (daachorse_options){.kind = rows[i].kind}, "\xe6\xbc\xa2,\xc3\xa9,\xc3\xa9z,z,") == DAACHORSE_DONE, "build", i);
+            need(daachorse_begin(&handle, rows[i].kind == DAACHORSE_STANDARD ? DAACHORSE_FIND : DAACHORSE_LEFTMOST) == DAACHORSE_DONE, "begin", i);
+            need(daachorse_consume(&handle, bytes_of("a\xe6"), 2, found, ROOM, &taken, &written) == DAACHORSE_DONE && taken == 2 && written == 0,
+                "a stream before", i);
+            need(is_each_part(&handle, rows[i].call, haystack, PARTS, wanted), "many matches passed on", i);
+            need(daachorse_consume(&handle, bytes_of("\xbc\xa2"), 2, found, ROOM, &taken, &written) == DAACHORSE_DONE && written == 1 && found[0].start == 1,
+                "a stream after", i);
+            daachorse_free(&handle);
+        }
+}
+
 /* A pattern that is no text is refused, and the handle keeps what it had. */
 static void see_refusals(void) {
     daachorse handle = DAACHORSE_EMPTY;
@@ -235,6 +330,8 @@ int main(void) {
     see_lists();
     see_streams();
     see_wrong_bytes();
+    see_each();
+    see_many_passed_on();
     see_refusals();
     return 0;
 }

@@ -11,7 +11,8 @@
  * - No pointer is null, but one with a length of 0 and that of daachorse_free. Each length is that
  *   of what its pointer points to. What a call writes to overlaps nothing else passed to the call,
  *   and needs no value before.
- * - A handle is used by one call at a time. Calls with different handles may run at once, also if
+ * - A handle is used by one call at a time. If two threads use one at once, searches may find
+ *   nothing, and the automaton may be lost. Calls with different handles may run at once, also if
  *   the handles share an automaton (daachorse_share): a thread each searches with a handle of its
  *   own. A handle may move to another thread, if a lock, a join or the like orders its calls after
  *   earlier ones.
@@ -26,6 +27,7 @@
 #include <stdbool.h>
 #include <stddef.h>
 #include <stdint.h>
+#include <stdlib.h>
 
 /* The version of the Rust crate whose searches these are, as text and as daachorse_version returns
  * it. */
@@ -163,12 +165,14 @@ uint32_t daachorse_build(daachorse *handle, uint32_t kind, bool use_prefilter, b
         const uint8_t *bytes, size_t bytes_len, const size_t *ends, size_t ends_len, const uint32_t *values,
         size_t values_len);
 
-/* Does what daachorse_build does, with the options in a struct. It may return
+/* Does what daachorse_build does, with the options in a struct. Over characters it takes time as the
+ * square of the number of different characters in the patterns, if these are many. It may return
  * DAACHORSE_UNKNOWN_OPTION besides, or DAACHORSE_INVALID_UTF8 if the automaton is to be over
  * characters and a pattern is no UTF-8, with the handle unchanged.
  *
- * Each call below that searches bytes with an automaton over characters returns
- * DAACHORSE_INVALID_UTF8 if they are no UTF-8, and then does what it does for an empty handle. */
+ * Each call below that searches a haystack with an automaton over characters returns
+ * DAACHORSE_INVALID_UTF8 if it is no UTF-8, and then does what it does for an empty handle. Calls
+ * that go by a stream say what they do. */
 uint32_t daachorse_build_with(daachorse *handle, const daachorse_options *options, const uint8_t *bytes,
         size_t bytes_len, const size_t *ends, size_t ends_len, const uint32_t *values, size_t values_len);
 
@@ -203,8 +207,10 @@ uint32_t daachorse_share(daachorse *handle, daachorse *other);
  * what it held. Searches of a whole haystack find the same, faster if patterns are few and short.
  * The rows take at most 319,484 bytes, and 2 for each element of the automaton. If more than 485
  * texts of at most two bytes begin patterns, or over characters more than 196 of at most two
- * characters, the copy may have none. Returns DAACHORSE_DONE or, with
- * other unchanged, DAACHORSE_EMPTY_HANDLE or DAACHORSE_OUT_OF_MEMORY. */
+ * characters, the copy may have none. If the automaton has a prefilter, the call walks over all
+ * patterns up to twice, each time in the time and memory of daachorse_list: an automaton of a
+ * stranger may have many for each of its own bytes. Returns DAACHORSE_DONE or, with other unchanged,
+ * DAACHORSE_EMPTY_HANDLE or DAACHORSE_OUT_OF_MEMORY. */
 uint32_t daachorse_accelerate(daachorse *handle, daachorse *other);
 
 /* The searches write their first matches to out, as many as there is room for, and their number to
@@ -236,8 +242,9 @@ uint32_t daachorse_leftmost_find(daachorse *handle, const uint8_t *haystack, siz
  * automaton of a leftmost kind with that of daachorse_leftmost_find, and moves the place behind the
  * last match written. The haystack is the same in all calls. If written is less than out_len, every
  * match was reported; else call again. The calls together read what one search of the whole reads,
- * and take a few steps more for each match, whatever out_len is; over characters each call also
- * reads the whole haystack, to see that it is UTF-8. They allocate nothing. Returns DAACHORSE_DONE
+ * and take a few steps more for each match, whatever out_len is. Over characters each call also
+ * reads the whole haystack, to see that it is UTF-8: with little room many calls take the square of
+ * its length (daachorse_find_each does not). They allocate nothing. Returns DAACHORSE_DONE
  * or, with place and out unchanged and 0 in written, DAACHORSE_EMPTY_HANDLE, or
  * DAACHORSE_WRONG_PLACE if the place is behind the haystack or inside a character. The other
  * searches go on by a stream (daachorse_begin). */
@@ -275,15 +282,16 @@ uint32_t daachorse_replace(daachorse *handle, const uint8_t *haystack, size_t ha
  * with a handle each. Pieces need not be kept after the call. */
 
 /* Begins a stream for the matches of a search, an enum daachorse_search, and drops a previous one.
- * It allocates nothing, but for DAACHORSE_LEFTMOST a byte for each element of the automaton and one
- * for each byte of the longest pattern, and memory for a walk over the patterns, as daachorse_list
- * takes, which is freed before the call returns. Returns DAACHORSE_DONE or, with the handle
- * unchanged, DAACHORSE_EMPTY_HANDLE, DAACHORSE_UNKNOWN_SEARCH, DAACHORSE_OUT_OF_MEMORY, or
- * DAACHORSE_WRONG_KIND if the search does not serve the automaton. */
+ * It allocates nothing, but for DAACHORSE_LEFTMOST a byte for each element of the automaton and one,
+ * or over characters four, for each byte of the longest pattern. For DAACHORSE_LEFTMOST it also walks
+ * over all patterns, in the time of daachorse_list, and with memory that is freed before the call
+ * returns: an automaton of a stranger may have many for each of its own bytes. Returns
+ * DAACHORSE_DONE or, with the handle unchanged, DAACHORSE_EMPTY_HANDLE, DAACHORSE_UNKNOWN_SEARCH,
+ * DAACHORSE_OUT_OF_MEMORY, or DAACHORSE_WRONG_KIND if the search does not serve the automaton. */
 uint32_t daachorse_begin(daachorse *handle, uint32_t search);
 
-/* Fills other with the automaton of the handle, as daachorse_share does, and begins a stream there.
- * If it is refused, other is unchanged or empty. */
+/* Fills other with the automaton of the handle, as daachorse_share does, and begins a stream there, as
+ * daachorse_begin does. If it is refused, other is unchanged or empty. */
 static inline uint32_t daachorse_stream(daachorse *handle, uint32_t search, daachorse *other) {
     uint32_t answer = daachorse_share(handle, other);
     if (answer == DAACHORSE_DONE && (answer = daachorse_begin(other, search)) != DAACHORSE_DONE)
@@ -300,8 +308,9 @@ static inline uint32_t daachorse_stream(daachorse *handle, uint32_t search, daac
  * Bytes with which no character begins are not consumed, nor those after them, even if written is
  * less than out_len. A call with them is then refused.
  *
- * A match of DAACHORSE_LEFTMOST is reported as soon as it is certain: as soon as no byte that
- * follows can change it. So some are reported only after the end (daachorse_end).
+ * A match of DAACHORSE_LEFTMOST is reported as soon as it is certain: as soon as no byte, or over
+ * characters no character, that follows can change it. So some are reported only after the end
+ * (daachorse_end).
  *
  * The call allocates nothing. The calls take time linear in the bytes and the matches, whatever
  * out_len is, but for DAACHORSE_LEFTMOST at most the length of the longest pattern more for each
@@ -487,9 +496,12 @@ static inline uint32_t daachorse_read_with_in_c(daachorse *handle, uint32_t unit
 #define daachorse_read_with daachorse_read_with_in_c
 
 /* Calls that pass each match to a function of the caller's, in order, until it returns other than 0.
- * They need no room, and find what the search of that name finds in a haystack of any length. */
+ * They need no room, and find what the search of that name finds in a haystack of any length. One
+ * that is stopped so returns DAACHORSE_DONE, whatever comes behind. A stream of the handle stays as
+ * it was. */
 
-/* Gets what the caller passed as context, and a match. Returns 0 to go on. */
+/* Gets what the caller passed as context, and a match. Returns 0 to go on. A jump out of it in place
+ * of a return leaves memory behind. */
 typedef int daachorse_each(void *context, daachorse_match found);
 
 enum { DAACHORSE_EACH_ROOM = 64 };
@@ -502,37 +514,77 @@ static inline bool daachorse_pass(const daachorse_match *found, size_t count, da
     return false;
 }
 
-/* daachorse_find, or for an automaton of a leftmost kind daachorse_leftmost_find. It allocates
- * nothing. Returns what daachorse_find_on does. */
-static inline uint32_t daachorse_find_each(daachorse *handle, const uint8_t *haystack, size_t haystack_len,
-        daachorse_each *each, void *context) {
-    daachorse_place place = {0, false, false};
-    daachorse_match found[DAACHORSE_EACH_ROOM];
-    size_t written = DAACHORSE_EACH_ROOM;
-    uint32_t answer = DAACHORSE_DONE;
-    while (answer == DAACHORSE_DONE && written == DAACHORSE_EACH_ROOM) {
-        answer = daachorse_find_on(handle, haystack, haystack_len, &place, found, DAACHORSE_EACH_ROOM, &written);
-        if (daachorse_pass(found, written, each, context))
-            break;
-    }
+/* Passes on the next matches, at most so many, and sets whether more may follow. */
+static inline uint32_t daachorse_find_on_each(daachorse *handle, const uint8_t *haystack, size_t haystack_len,
+        daachorse_place *place, daachorse_match *found, size_t room, daachorse_each *each, void *context, bool *goes_on) {
+    size_t written;
+    uint32_t answer = daachorse_find_on(handle, haystack, haystack_len, place, found, room, &written);
+    *goes_on = !daachorse_pass(found, written, each, context) && written == room;
     return answer;
 }
 
-/* The matches of a search of streams, by a stream of its own: a few words are allocated, and freed.
- * Returns what daachorse_stream and daachorse_consume do. */
+/* Whether the automaton is over characters: then it reads no byte that begins none. */
+static inline bool daachorse_is_over_characters(daachorse *handle) {
+    const uint8_t no_text = 0x80;
+    bool found;
+    return daachorse_is_match(handle, &no_text, 1, &found) == DAACHORSE_INVALID_UTF8;
+}
+
+/* daachorse_find, or for an automaton of a leftmost kind daachorse_leftmost_find, in their time.
+ * Returns what daachorse_find_on does, and passes no match on if it is refused. It allocates nothing,
+ * but over characters, if there are 64 matches or more, room for one for each 64 bytes of the
+ * haystack, which is freed before it returns. If that is refused it goes on without, and takes time
+ * as the product of the haystack and the matches. */
+static inline uint32_t daachorse_find_each(daachorse *handle, const uint8_t *haystack, size_t haystack_len,
+        daachorse_each *each, void *context) {
+    daachorse_place place = {0, false, false};
+    daachorse_match few[DAACHORSE_EACH_ROOM], *many = NULL, *found = few;
+    size_t room = DAACHORSE_EACH_ROOM, more = haystack_len / DAACHORSE_EACH_ROOM;
+    bool goes_on;
+    uint32_t answer = daachorse_find_on_each(handle, haystack, haystack_len, &place, found, room, each, context, &goes_on);
+    /* Over characters each call reads the whole haystack, so few calls are to find the rest. */
+    if (goes_on && more > room && daachorse_is_over_characters(handle))
+        many = (daachorse_match *)malloc(more * sizeof *many);
+    if (many != NULL) {
+        found = many;
+        room = more;
+    }
+    while (goes_on)
+        answer = daachorse_find_on_each(handle, haystack, haystack_len, &place, found, room, each, context, &goes_on);
+    free(many);
+    return answer;
+}
+
+/* Passes on what a stream reports of these bytes, and sets whether a call asked to stop. */
+static inline uint32_t daachorse_consume_each(daachorse *stream, const uint8_t *bytes, size_t bytes_len,
+        daachorse_each *each, void *context, bool *stopped) {
+    daachorse_match found[DAACHORSE_EACH_ROOM];
+    size_t at = 0, taken, written;
+    uint32_t answer;
+    do {
+        const uint8_t *rest = bytes != NULL ? bytes + at : NULL;
+        answer = daachorse_consume(stream, rest, bytes_len - at, found, DAACHORSE_EACH_ROOM, &taken, &written);
+        at += taken;
+        *stopped = daachorse_pass(found, written, each, context);
+    } while (answer == DAACHORSE_DONE && !*stopped && (written == DAACHORSE_EACH_ROOM || at < bytes_len));
+    return answer;
+}
+
+/* The matches of a search of streams, by a stream of its own, which takes what daachorse_stream takes
+ * and is freed. Returns what daachorse_stream, daachorse_consume and daachorse_end do. If that is
+ * DAACHORSE_INVALID_UTF8, the matches that were certain before the wrong bytes, or before the
+ * character in which the haystack ends, were passed on. */
 static inline uint32_t daachorse_stream_each(daachorse *handle, uint32_t search, const uint8_t *haystack,
         size_t haystack_len, daachorse_each *each, void *context) {
     daachorse stream = DAACHORSE_EMPTY;
-    daachorse_match found[DAACHORSE_EACH_ROOM];
-    size_t at = 0, taken, written = DAACHORSE_EACH_ROOM;
+    bool stopped = false;
     uint32_t answer = daachorse_stream(handle, search, &stream);
-    while (answer == DAACHORSE_DONE && (written == DAACHORSE_EACH_ROOM || at < haystack_len)) {
-        const uint8_t *rest = haystack != NULL ? haystack + at : NULL;
-        answer = daachorse_consume(&stream, rest, haystack_len - at, found, DAACHORSE_EACH_ROOM, &taken, &written);
-        at += taken;
-        if (daachorse_pass(found, written, each, context))
-            break;
-    }
+    if (answer == DAACHORSE_DONE)
+        answer = daachorse_consume_each(&stream, haystack, haystack_len, each, context, &stopped);
+    if (answer == DAACHORSE_DONE && !stopped)
+        answer = daachorse_end(&stream);
+    if (answer == DAACHORSE_DONE && !stopped)
+        answer = daachorse_consume_each(&stream, NULL, 0, each, context, &stopped);
     daachorse_free(&stream);
     return answer;
 }

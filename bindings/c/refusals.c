@@ -1,6 +1,6 @@
 /* Refuses each allocation of each call that allocates in turn. The call must return
- * DAACHORSE_OUT_OF_MEMORY, change nothing and leak nothing. Link with
- * -Wl,--wrap=malloc,--wrap=realloc. */
+ * DAACHORSE_OUT_OF_MEMORY, change nothing and leak nothing, but for daachorse_find_each, which goes
+ * on without. Link with -Wl,--wrap=malloc,--wrap=realloc. */
 #include "daachorse.h"
 
 #include <stdio.h>
@@ -91,6 +91,39 @@ static uint32_t list_patterns(daachorse *handle) {
     return answer;
 }
 
+static int count_passed(void *context, daachorse_match found) {
+    size_t *passed = context;
+    need(found.start == 2 * *passed && found.end == found.start + 2 && found.value == 0, "a match passed on");
+    ++*passed;
+    return 0;
+}
+
+static uint32_t pass_on(daachorse *handle) {
+    size_t passed = 0;
+    uint32_t answer = daachorse_stream_each(handle, DAACHORSE_LEFTMOST, bytes, 2, count_passed, &passed);
+    need(passed == (answer == DAACHORSE_DONE ? 1 : 0), "what a stream passed on");
+    return answer;
+}
+
+/* daachorse_find_each passes on the same with memory and without, and over bytes asks for none. */
+static void pass_on_without_memory(uint32_t unit, size_t requests) {
+    static uint8_t text[10000];
+    const daachorse_options options = {.unit = unit};
+    const size_t end = 2;
+    daachorse handle = DAACHORSE_EMPTY;
+    for (size_t i = 0; i < sizeof text; i++)
+        text[i] = i % 2 ? 0xa9 : 0xc3;
+    need(daachorse_build_with(&handle, &options, text, 2, &end, 1, values, 1) == DAACHORSE_DONE, "build");
+    for (size_t grants = 0; grants <= 2; grants++) {
+        size_t passed = 0, left = grants < requests ? 0 : grants - requests;
+        granted = grants;
+        need(daachorse_find_each(&handle, text, sizeof text, count_passed, &passed) == DAACHORSE_DONE, "a search for each match");
+        need(passed == sizeof text / 2 && granted == left, "the matches passed on");
+    }
+    granted = (size_t)-1;
+    daachorse_free(&handle);
+}
+
 /* Makes the call with 0, 1, 2 and so on requests granted, until it succeeds. */
 static void refuse_each(const char *name, uint32_t (*call)(daachorse *), daachorse *handle) {
     size_t refused = 0;
@@ -122,6 +155,9 @@ int main(void) {
     need(daachorse_is_match(&again, (const uint8_t *)"xCdx", 4, &found) == DAACHORSE_DONE && found, "one with rows");
     need(daachorse_build(&full, DAACHORSE_LEFTMOST_LONGEST, true, false, bytes, 10, ends, 4, values, 4) == DAACHORSE_DONE, "build");
     refuse_each("begin", begin_leftmost, &full);
+    refuse_each("stream_each", pass_on, &full);
+    pass_on_without_memory(DAACHORSE_BYTES, 0);
+    pass_on_without_memory(DAACHORSE_CHARACTERS, 1);
     daachorse_free(&full);
     refuse_each("read", read_form, &again);
     need(daachorse_is_match(&again, (const uint8_t *)"xCdx", 4, &found) == DAACHORSE_DONE && found, "is_match");

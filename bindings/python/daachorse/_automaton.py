@@ -7,7 +7,7 @@ import functools
 import itertools
 from typing import TYPE_CHECKING, Any, Callable, Iterable, Iterator
 
-from ._form import Facts, described
+from ._form import Facts, described, is_utf8
 from ._handles import FIRST_ROOM, Handles
 from ._library import Kind, Refusal, Refused, Search, library, need_done
 from ._lookups import Words
@@ -16,7 +16,7 @@ from ._memory import Memory, Place, memory_of
 from ._places import CodePoints, Places, at_characters
 from ._search import Found, apart, overlapping, read_found, streamed
 from ._stream import Feed, Stream
-from ._texts import Text, encoded, is_utf8, need_list, need_unit, read_patterns
+from ._texts import Text, encoded, need_list, need_unit, read_patterns
 
 if TYPE_CHECKING:
     from _typeshed import ReadableBuffer
@@ -63,8 +63,10 @@ class Automaton:
     def read(cls, written: ReadableBuffer, unit: type = bytes, values: Iterable | None = None) -> tuple[Automaton, bytes]:
         """Reads the automaton that the bytes begin with, and returns it with the remaining bytes.
 
-        The bytes may be untrusted. They say neither what the automaton is over nor what objects its
-        values stand for. Raises Refused if no automaton begins the bytes, if a pattern is no UTF-8
+        The bytes may be untrusted: reading takes time and memory linear in them. But an automaton may
+        have many patterns for each of its bytes, and `accelerate`, leftmost streams, `len`, `items` and
+        lookups go over all of them. The bytes say neither what the automaton is over nor what objects
+        its values stand for. Raises Refused if no automaton begins the bytes, if a pattern is no UTF-8
         but the unit is `str`, or if a pattern's value is no index of the values.
         """
         need_unit(unit)
@@ -76,10 +78,10 @@ class Automaton:
         if beside is not None and greatest >= len(beside):
             sentence = f"a pattern has the value {greatest}, and there are {len(beside)} values"
             raise Refused(Refusal.INVALID_AUTOMATON, sentence)
+        if unit is str and not is_utf8(form):
+            raise Refused(Refusal.INVALID_AUTOMATON, "a pattern is no UTF-8: read the automaton with unit=bytes")
         automaton = cls.__new__(cls)
         automaton._become(handles, facts, unit, beside)
-        if unit is str and not all(is_utf8(text) for text, _ in automaton._listed()):
-            raise Refused(Refusal.INVALID_AUTOMATON, "a pattern is no UTF-8: read the automaton with unit=bytes")
         return automaton, bytes(form[taken.value :])
 
     def write(self) -> bytes:

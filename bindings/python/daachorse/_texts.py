@@ -40,12 +40,26 @@ def utf8(text: str) -> bytes:
         raise ValueError(f"the code point {error.start} of a text is a lone surrogate, which no UTF-8 has") from None
 
 
-def is_utf8(text: bytes) -> bool:
-    try:
-        text.decode()
-    except UnicodeDecodeError:
-        return False
-    return True
+def _utf8_steps() -> list[bytes]:
+    """For each step in a character of UTF-8, the step that each byte leads to.
+
+    Between characters the step is 0, and behind a wrong byte it is the last one.
+    """
+    # A step, the first and the last of some bytes, and the next step. The steps from 4 on are behind
+    # bytes that not all may follow, since the character would be longer than needed or no scalar value.
+    ways = [
+        *[(0, 0x00, 0x7F, 0), (0, 0xC2, 0xDF, 1), (0, 0xE1, 0xEF, 2), (0, 0xF1, 0xF3, 3)],
+        *[(1, 0x80, 0xBF, 0), (2, 0x80, 0xBF, 1), (3, 0x80, 0xBF, 2)],
+        *[(0, 0xE0, 0xE0, 4), (0, 0xED, 0xED, 5), (0, 0xF0, 0xF0, 6), (0, 0xF4, 0xF4, 7)],
+        *[(4, 0xA0, 0xBF, 1), (5, 0x80, 0x9F, 1), (6, 0x90, 0xBF, 2), (7, 0x80, 0x8F, 2)],
+    ]
+    steps = [bytearray([8]) * 256 for _ in range(9)]
+    for step, first, last, next_step in ways:
+        steps[step][first : last + 1] = bytes([next_step]) * (last + 1 - first)
+    return [bytes(step) for step in steps]
+
+
+UTF8_STEPS = _utf8_steps()
 
 
 def encoded(text: Text, unit: type) -> ReadableBuffer:

@@ -58,7 +58,9 @@ impl<H: ?Sized> Clone for Automaton<H> {
 
 impl Automaton {
     /// Reads the automaton over bytes that the bytes begin with, and returns it with the remaining
-    /// bytes. The bytes may be untrusted.
+    /// bytes. The bytes may be untrusted. It may have many patterns for each of its bytes, and
+    /// [`Automaton::patterns`], [`Automaton::counts`], [`Automaton::accelerate`] and
+    /// [`Automaton::leftmost_stream`] walk over all of them.
     ///
     /// # Errors
     ///
@@ -111,7 +113,8 @@ impl<H: Haystack + ?Sized> Automaton<H> {
     }
 
     /// Returns a copy that finds the same, faster if patterns are few and short: it has rows of the
-    /// states near the root, if there is room for them. Streams are no faster.
+    /// states near the root, if there is room for them. Streams are no faster. It walks over all
+    /// patterns if there is a prefilter.
     ///
     /// # Errors
     ///
@@ -359,7 +362,8 @@ impl<H: Haystack + ?Sized> Automaton<H> {
     }
 
     /// Begins a stream for the matches of [`Automaton::leftmost_find`]. It tells each as soon as it
-    /// is certain, whatever follows, and [`Stream::finish`] the rest.
+    /// is certain, whatever follows, and [`Stream::finish`] the rest. To begin it walks over all
+    /// patterns.
     ///
     /// # Errors
     ///
@@ -401,16 +405,13 @@ impl<H: Haystack + ?Sized> Automaton<H> {
             return Err(Refusal::WrongKind);
         }
         let going_on = GoingOn::From(Place::default());
-        Matches::new(&self.handles, haystack.bytes(), going_on)
+        Matches::new(&self.handles, haystack, going_on)
     }
 
     fn overlapping<'h>(&self, search: Search, haystack: &'h H) -> Result<Matches<'h>, Refusal> {
-        let going_on = GoingOn::Again {
-            search,
-            longest: self.longest,
-            in_text: H::IS_TEXT,
-        };
-        Matches::new(&self.handles, haystack.bytes(), going_on)
+        let longest = self.longest;
+        let going_on = GoingOn::Again { search, longest };
+        Matches::new(&self.handles, haystack, going_on)
     }
 
     fn look_up(&self, search: Search, text: &H) -> Vec<Match> {

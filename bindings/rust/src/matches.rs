@@ -1,6 +1,7 @@
 //! Matches, and searches that go on as these are asked for.
 
 use crate::handles::Handles;
+use crate::haystack::Haystack;
 use crate::library::{daachorse_find_on, Place, Search};
 use crate::refusal::{done, Refusal};
 use std::iter::FusedIterator;
@@ -31,16 +32,12 @@ const ROOM: usize = 1 << 16;
 pub(crate) enum GoingOn {
     /// From the place where the last call left off.
     From(Place),
-    /// Again, from before the end of the last match by as many bytes as a pattern has at most. If
-    /// `in_text`, it begins at a character.
-    Again {
-        search: Search,
-        longest: usize,
-        in_text: bool,
-    },
+    /// Again, from before the end of the last match by as many bytes as a pattern has at most.
+    Again { search: Search, longest: usize },
 }
 
-/// The matches of a search. The haystack is searched as they are asked for.
+/// The matches of a search. The haystack is searched as they are asked for, some at once: up to
+/// 65,536, or in a long text one for each 32 bytes.
 ///
 /// ```
 /// use daachorse_c::{Automaton, Kind};
@@ -55,6 +52,7 @@ pub(crate) enum GoingOn {
 pub struct Matches<'h> {
     handles: Arc<Handles>,
     haystack: &'h [u8],
+    in_text: bool,
     going_on: GoingOn,
     // What the last call wrote, in front of what it had room for, with places from `begin` on.
     room: Vec<Match>,
@@ -66,14 +64,15 @@ pub struct Matches<'h> {
 }
 
 impl<'h> Matches<'h> {
-    pub(crate) fn new(
+    pub(crate) fn new<H: Haystack + ?Sized>(
         handles: &Arc<Handles>,
-        haystack: &'h [u8],
+        haystack: &'h H,
         going_on: GoingOn,
     ) -> Result<Matches<'h>, Refusal> {
         let mut matches = Matches {
             handles: Arc::clone(handles),
-            haystack,
+            haystack: haystack.bytes(),
+            in_text: H::IS_TEXT,
             going_on,
             room: vec![NO_MATCH; FIRST_ROOM],
             written: 0,
@@ -105,7 +104,7 @@ impl<'h> Matches<'h> {
     /// Searches on, behind matches that filled the room.
     fn go_on(&mut self) {
         // At least half of the room is for new matches.
-        if self.room.len() < ROOM || 2 * self.told > self.room.len() {
+        if self.room.len() < self.most_room() || 2 * self.told > self.room.len() {
             let len = 2 * self.room.len();
             self.room.resize(len, NO_MATCH);
         }
@@ -114,22 +113,30 @@ impl<'h> Matches<'h> {
                 self.refill();
                 0
             }
-            GoingOn::Again {
-                longest, in_text, ..
-            } => self.search_again(longest, in_text),
+            GoingOn::Again { longest, .. } => self.search_again(longest),
         };
         self.given = self.told;
     }
 
+    /// The room up to which it grows. Each call reads the whole rest of a text, to see that it is
+    /// UTF-8, so that for a long one few calls are to be made.
+    fn most_room(&self) -> usize {
+        if self.in_text {
+            ROOM.max(self.haystack.len() / FIRST_ROOM)
+        } else {
+            ROOM
+        }
+    }
+
     /// Searches again, and returns how many matches were given before.
-    fn search_again(&mut self, longest: usize, in_text: bool) -> usize {
+    fn search_again(&mut self, longest: usize) -> usize {
         let told = &self.room[..self.written];
         let last = told[told.len() - 1].end;
         let ends_there = |found: &&Match| found.end == last;
         let here = told.iter().rev().take_while(ends_there).count();
         let end = self.begin + last;
         self.begin = end.saturating_sub(longest);
-        while in_text && self.is_inside_character(self.begin) {
+        while self.in_text && self.is_inside_character(self.begin) {
             self.begin -= 1;
         }
         self.refill();
@@ -172,3 +179,33 @@ impl Iterator for Matches<'_> {
 }
 
 impl FusedIterator for Matches<'_> {}
+
+#[cfg(test)]
+mod tests {
+    use super::*;
+    use crate::{Automaton, Kind};
+
+    /// Sees the matches in parts of 28 bytes, each with one at its front, and returns the room.
+    fn last_room(found: Result<Matches<'_>, Refusal>) -> usize {
+        let (mut found, mut start) = (found.unwrap(), 0);
+        for it in &mut found {
+            assert_eq!((it.start, it.end, it.value), (start, start + 2, 0));
+            start += 28;
+        }
+        assert_eq!(start, found.haystack.len());
+        found.room.len()
+    }
+
+    #[test]
+    fn the_room_grows_with_a_text() {
+        let text = format!("é{}", "z".repeat(26)).repeat(160_000);
+        let standard = Automaton::new(Kind::Standard, true, ["é"]).unwrap();
+        let longest = Automaton::new(Kind::LeftmostLongest, true, ["é"]).unwrap();
+        assert_eq!(last_room(standard.find(&text)), 2 * ROOM);
+        assert_eq!(last_room(standard.find_overlapping(&text)), 2 * ROOM);
+        assert_eq!(last_room(longest.leftmost_find(&text)), 2 * ROOM);
+        let bytes = Automaton::new(Kind::Standard, true, ["é".as_bytes()]).unwrap();
+        assert_eq!(last_room(bytes.find(text.as_bytes())), ROOM);
+        assert_eq!(last_room(bytes.find_overlapping(text.as_bytes())), ROOM);
+    }
+}

@@ -5,19 +5,20 @@
 #     bindings/build.sh [--after-gate] [FOLDER]
 #
 # The output goes to FOLDER, else to bindings/out: libdaachorse.so.1 with the link libdaachorse.so,
-# the example in C, and tests in C: over the table bindings/rows, which rows.py makes, of the other
-# calls, of automata over characters, of each allocation refused in turn, of the memory that a
-# hostile form takes, of the steps of a stream over many equal patterns, and of threads that search
-# an automaton at once.
+# the example in C, and tests in C: over the table crates/daachorse_table/stdin, of the other calls, of
+# automata over characters, of each allocation refused in turn, of the memory that a hostile form
+# takes, of the steps of a stream over many equal patterns, and of threads that search an automaton at
+# once.
 #
 # It needs the Rattle kit (its command rt), which first proves what is not proved yet, and a C
-# compiler, CC or cc, with a linker that has --wrap. Without valgrind, python3, Dask, objcopy or a
-# cargo that runs, it says so and skips what needs it; tools/debian.sh installs them. With
-# --after-gate, which .ci/run passes right after rt ci, it uses the libraries that the gate proved,
-# and succeeds without a C compiler and after warnings.
+# compiler, CC or cc, with a linker that has --wrap. Without nm, valgrind, python3, numpy, Dask,
+# objcopy or a cargo that runs, it skips what needs it, and its last lines count and name what was
+# skipped; tools/debian.sh installs them. With --after-gate, which .ci/run passes right after rt ci,
+# it uses the libraries that the gate proved, and succeeds without a C compiler and after warnings.
 set -eu
 here=$(CDPATH= cd -- "$(dirname -- "$0")" && pwd)
 crate="$here/../crates/daachorse_c"
+table="$here/../crates/daachorse_table/stdin"
 after_gate=no warnings=-Werror
 if [ "${1:-}" = --after-gate ]; then
     after_gate=yes warnings=
@@ -29,10 +30,17 @@ command -v rt >/dev/null || { echo "build.sh: there is no rt, the command of the
 kit=$(dirname -- "$(rt doc)")
 mkdir -p "$out"
 out=$(CDPATH= cd -- "$out" && pwd)
+skipped="$out/skipped"
+: > "$skipped"
+
+# skip TEXT: notes a test that is not run, and why.
+skip() {
+    echo "$1" >> "$skipped"
+}
 
 printf '#include <stdlib.h>\nint main(void) { return 0; }\n' > "$out/trial.c"
 if ! { "$compiler" -o "$out/trial" "$out/trial.c" && "$out/trial"; } 2>/dev/null; then
-    echo "build.sh: there is no C compiler $compiler that makes a program, so no library for C was built"
+    echo "build.sh: skipped: the library for C and all its tests: there is no C compiler $compiler that makes a program"
     [ "$after_gate" = yes ] && exit 0
     exit 2
 fi
@@ -53,7 +61,9 @@ heap="$kit/c/liblibc_c.a"
 "$compiler" -shared -o "$out/libdaachorse.so.1" -Wl,-soname,libdaachorse.so.1 -Wl,--version-script="$here/c/exports" \
     -Wl,--whole-archive "$library" -Wl,--no-whole-archive "$heap"
 ln -sf libdaachorse.so.1 "$out/libdaachorse.so"
-if command -v nm >/dev/null && nm -D --defined-only "$out/libdaachorse.so" | grep -v ' daachorse_'; then
+if ! command -v nm >/dev/null; then
+    skip "the names that the library exports: there is no nm"
+elif nm -D --defined-only "$out/libdaachorse.so" | grep -v ' daachorse_'; then
     echo "build.sh: the library exports more than its own names" >&2
     exit 1
 fi
@@ -75,8 +85,8 @@ compile steps
 "$out/example" > "$out/example.stdout"
 diff "$here/c/example.stdout" "$out/example.stdout"
 echo "build.sh: the example in C wrote what it should"
-"$out/rows" < "$here/rows"
-echo "build.sh: in C each search and each listing wrote what its row says"
+"$out/rows" < "$table"
+echo "build.sh: in C the rows of the table hold"
 "$out/calls"
 echo "build.sh: in C the other calls did what their rows say"
 "$out/characters"
@@ -88,47 +98,60 @@ echo "build.sh: a listing without room held no patterns"
 "$out/threads" 200
 echo "build.sh: threads searched shared automata at once"
 
+# steps WHAT NUMBER: the steps that a stream over so many equal patterns takes, or that searches for
+# each match take in a text of so many characters.
 steps() {
-    valgrind --tool=callgrind --callgrind-out-file=/dev/null "$out/steps" "$1" 2>&1 | sed -n 's/.*Collected : \([0-9]*\).*/\1/p'
+    valgrind --tool=callgrind --callgrind-out-file=/dev/null "$out/steps" "$@" 2>&1 | sed -n 's/.*Collected : \([0-9]*\).*/\1/p'
 }
 
 if valgrind -q "$out/trial" >/dev/null 2>&1; then
     for program in example rows calls characters refusals memory; do
-        valgrind -q --leak-check=full --show-leak-kinds=all --errors-for-leak-kinds=all --error-exitcode=1 "$out/$program" < "$here/rows" >/dev/null
+        valgrind -q --leak-check=full --show-leak-kinds=all --errors-for-leak-kinds=all --error-exitcode=1 "$out/$program" quick < "$table" >/dev/null
     done
     valgrind -q --tool=helgrind --error-exitcode=1 "$out/threads" 2 >/dev/null
     echo "build.sh: valgrind found no bad access, no leak and no race"
-    few=$(steps 4000) many=$(steps 8000)
+    few=$(steps patterns 4000) many=$(steps patterns 8000)
     [ "$many" -lt $((few * 5 / 2)) ] || { echo "build.sh: a stream takes $few steps for 4000 matches and $many for 8000" >&2; exit 1; }
     echo "build.sh: twice the matches at a place took a stream no more than twice the steps"
+    few=$(steps text 16000) many=$(steps text 32000)
+    [ "$many" -le $((few * 5 / 2)) ] || { echo "build.sh: a search for each match takes $few steps in 16000 characters and $many in 32000" >&2; exit 1; }
+    echo "build.sh: twice the text took a search for each match no more than two and a half times the steps"
 else
-    echo "build.sh: there is no valgrind that runs, so nothing was run under it"
+    skip "the programs in C under valgrind: there is none that runs"
 fi
 
-if python3 -c 'import ctypes, unittest' 2>/dev/null; then
+# Debian's Python has Debian's packages; another may come first on the path.
+python=python3
+if /usr/bin/python3 -c 'import ctypes, unittest' 2>/dev/null; then
+    python=/usr/bin/python3
+fi
+if "$python" -c 'import ctypes, unittest' 2>/dev/null; then
     export PYTHONDONTWRITEBYTECODE=1 PYTHONPATH="$here/python:$here/../examples" DAACHORSE_LIBRARY="$out/libdaachorse.so"
-    python3 "$here/rows.py" | diff "$here/rows" -
-    python3 "$here/python/test_daachorse.py"
+    "$python" "$here/python/test_daachorse.py"
     echo "build.sh: the tests in Python passed"
+    "$python" -c 'import numpy' 2>/dev/null || skip "a haystack of numpy in Python: $python has no numpy"
     if /usr/bin/python3 -c 'import distributed' 2>/dev/null; then
         timeout 900 /usr/bin/python3 "$here/../examples/dask_search_test.py"
         echo "build.sh: the search by Dask passed its test"
     else
-        echo "build.sh: /usr/bin/python3 has no distributed, so the search by Dask was not tested"
+        skip "the search by Dask: /usr/bin/python3 has no distributed"
     fi
 else
-    echo "build.sh: there is no python3 with ctypes, so its tests were not run"
+    skip "the tests in Python: there is no python3 with ctypes"
 fi
 
 if cargo --version >/dev/null 2>&1 && rustc --version >/dev/null 2>&1; then
     (cd "$here/rust" && DAACHORSE_LIBRARY_FOLDER="$out" LD_LIBRARY_PATH="$out" CARGO_TARGET_DIR="$out/rust" cargo test --quiet --offline)
     echo "build.sh: the tests in Rust passed"
 else
-    echo "build.sh: there is no cargo that runs, so the tests in Rust were not run"
+    skip "the tests in Rust: there is no cargo that runs"
 fi
 
 if command -v objcopy >/dev/null; then
     "$here/package_test.sh" "$out"
 else
-    echo "build.sh: there is no objcopy, so no packages were made"
+    skip "the packages: there is no objcopy"
 fi
+
+echo "build.sh: $(wc -l < "$skipped") tests were skipped"
+sed 's/^/build.sh: skipped: /' "$skipped"

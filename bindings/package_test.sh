@@ -2,16 +2,25 @@
 # package_test.sh [FOLDER]
 #
 # Installs what bindings/package.sh packs in an empty folder, and there builds and runs a program in
-# C by pkg-config alone, one in Rust by the crate alone, and one in Python by the wheel alone.
+# C by pkg-config alone, one in Rust by the crate alone, and one in Python by the wheel alone. What is
+# skipped since something is missing is noted in FOLDER/skipped, a line each.
 set -eu
 here=$(CDPATH= cd -- "$(dirname -- "$0")" && pwd)
 work=$(mktemp -d)
 trap 'rm -rf "$work"' EXIT
 out=${1:-"$here/out"}
 package="$out/package"
+
+# skip TEXT: notes a test that is not run, and why.
+skip() {
+    echo "$1" >> "$out/skipped"
+}
+
 "$here/package.sh" --prefix "$work/prefix" "$out"
 (cd "$package" && sha256sum --quiet -c SHA256SUMS)
-if nm -g --defined-only "$work/prefix/lib/libdaachorse.a" | grep ' [A-Z] ' | grep -v ' daachorse_'; then
+if ! command -v nm >/dev/null; then
+    skip "the names of the packed archive: there is no nm"
+elif nm -g --defined-only "$work/prefix/lib/libdaachorse.a" | grep ' [A-Z] ' | grep -v ' daachorse_'; then
     echo "package_test.sh: the archive has more global names than its own" >&2
     exit 1
 fi
@@ -26,7 +35,7 @@ if command -v pkg-config >/dev/null; then
     LD_LIBRARY_PATH="$work/prefix/lib" ./program | diff "$here/c/example.stdout" -
     echo "package_test.sh: a program in C was built by pkg-config alone"
 else
-    echo "package_test.sh: there is no pkg-config, so no program in C was built by it"
+    skip "a program in C by pkg-config: there is none"
 fi
 
 if cargo --version >/dev/null 2>&1 && rustc --version >/dev/null 2>&1; then
@@ -53,7 +62,7 @@ END
     (cd rust && cargo run --quiet --offline) | grep -x '1 5 1' >/dev/null
     echo "package_test.sh: a program in Rust was built by the crate alone"
 else
-    echo "package_test.sh: there is no cargo that runs, so no program in Rust was built"
+    skip "a program in Rust by the crate alone: there is no cargo that runs"
 fi
 
 if /usr/bin/python3 -m venv "$work/venv" >/dev/null 2>&1; then
@@ -62,5 +71,5 @@ if /usr/bin/python3 -m venv "$work/venv" >/dev/null 2>&1; then
     env -u DAACHORSE_LIBRARY "$work/venv/bin/python" -I -c "$program" | grep -x '1 2 0' >/dev/null
     echo "package_test.sh: the wheel was installed in an empty environment"
 else
-    echo "package_test.sh: /usr/bin/python3 makes no virtual environment, so the wheel was not installed"
+    skip "the wheel: /usr/bin/python3 makes no virtual environment"
 fi

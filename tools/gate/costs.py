@@ -5,7 +5,8 @@ It runs `rt ci NAME..` at the top of the repository, and passes on its output. T
 numbers of functions, tests and wrong bodies of each crate, and the processes that the gate starts
 give the processor seconds of its proof, tests and wrong bodies. A table is printed at the end. If
 the gate passed with no NAME, or with a RECORD, the table is also written to COSTS.md beside this
-file, between the lines `<!-- costs -->` and `<!-- end of costs -->`. The exit status is the gate's.
+file, between the lines `<!-- costs -->` and `<!-- end of costs -->`, and the time on two cores to
+the README's row of `rt ci`. The exit status is the gate's.
 
 The gate skips what is kept from an earlier run on the machine. With RECORD, a file that this
 program makes, the table covers all runs with the same RECORD: what a run did replaces its entry,
@@ -15,6 +16,7 @@ The seconds of a process are read twice a second, so a crate's are a little less
 Without RECORD the sum in the last line is what the system counted.
 """
 import json
+import math
 import os
 import re
 import resource
@@ -26,6 +28,9 @@ import time
 HERE = os.path.dirname(os.path.abspath(__file__))
 TOP = os.path.dirname(os.path.dirname(HERE))
 COSTS = os.path.join(HERE, "COSTS.md")
+README = os.path.join(TOP, "README.md")
+# What a check takes alone of its seconds beside others, as COSTS.md says.
+ALONE = 0.6
 BEGIN, END = "<!-- costs -->", "<!-- end of costs -->"
 TICKS = os.sysconf("SC_CLK_TCK")
 
@@ -160,6 +165,17 @@ def put(text):
         it.write(f"{before}{BEGIN}\n{text}\n{END}{after}")
 
 
+def put_time(seconds):
+    """Writes the minutes on two quiet cores, in steps of five, to the README's row of the gate."""
+    minutes = 5 * math.ceil(seconds * ALONE / 2 / 300)
+    with open(README) as it:
+        text, number = re.subn(r"(?m)^(\| `rt ci`, at the top \|.*\|) [^|]* \|$", rf"\1 {minutes} minutes |", it.read())
+    if number != 1:
+        sys.exit(f"{README} has {number} rows of rt ci")
+    with open(README, "w") as it:
+        it.write(text)
+
+
 def main(words):
     record = words[1] if words[:1] == ["--record"] else None
     names = words[2:] if record else words
@@ -185,6 +201,7 @@ def main(words):
     print(f"\n{text}")
     if status == 0 and (record or not names):
         put(text)
+        put_time(whole)
     return status
 
 

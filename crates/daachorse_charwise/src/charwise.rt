@@ -72,8 +72,8 @@ use std::marker::Model;
 ///
 /// Searches and steppers need [`MatchKind::Standard`], but [`Self::leftmost_find_iter`] needs
 /// another kind, and [`Self::find`], [`Self::is_match`], [`Self::replace_all`] and lookups, as
-/// [`Self::get`], take any. None takes memory. A standard search takes at most two turns, looks at
-/// one state, for each character.
+/// [`Self::get`], take any. Those alone take memory that are passed an allocator. A standard
+/// search takes at most two turns, looks at one state, for each character.
 ///
 /// Threads can share an automaton: it is `Send` and `Sync` if its values and its allocator are.
 #[derive(Drop)]

@@ -69,6 +69,20 @@ impl<'a> Expected<'a> {
         }
     }
 
+    /// Takes the matches that a stepper reports at this place, in turn, up to the first unexpected
+    /// one. Each ends there.
+    pub fn take_at<I: Iterator<Item = Match<u32>> + Drop>(&mut self, place: usize, matches: I)
+        requires can { I.can_next matches }
+        requires ends { IsFinite (I.remaining matches) }
+    {
+        for found in matches {
+            self.holds = self.holds && found.end() == place;
+            if !self.take(found) {
+                return;
+            }
+        }
+    }
+
     /// Whether exactly the expected matches came.
     pub fn is_met(&self) -> bool {
         self.holds && self.left.len() == 0
@@ -179,7 +193,7 @@ where
         unit.in_range();
         stepper.consume(unit);
         expected.take_depth(stepper.depth());
-        expected.take_all(stepper.matches().into_iter());
+        expected.take_at(stepper.place(), stepper.matches().into_iter());
     }
 }
 
@@ -221,7 +235,7 @@ where
         unit.in_range();
         stepper.consume(unit);
         expected.take_depth(stepper.depth());
-        expected.take_all(stepper.matches());
+        expected.take_at(stepper.place(), stepper.matches());
     }
 }
 

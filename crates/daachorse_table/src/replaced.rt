@@ -130,28 +130,29 @@ impl Write for Narrow {
     }
 }
 
-/// A reader that gives at most three bytes a call, and is interrupted before each.
+/// A reader that gives at most three bytes a call, and is interrupted three times before each.
 #[derive(Drop)]
 pub struct Slow<'a> {
     left: &'a [u8],
-    is_ready: bool,
+    interruptions: u8,
 }
 
 impl<'a> Slow<'a> {
     pub fn new(left: &'a [u8]) -> Self {
         Self {
             left,
-            is_ready: false,
+            interruptions: 0,
         }
     }
 }
 
 impl<'a> Read for Slow<'a> {
     fn read(&mut self, room: &mut [u8]) -> io::Result<usize> {
-        self.is_ready = !self.is_ready;
-        if self.is_ready {
+        if self.interruptions < 3 {
+            self.interruptions += 1;
             return Err(io::Error::from(ErrorKind::Interrupted));
         }
+        self.interruptions = 0;
         let count = room.len().min(3);
         self.left.read(&mut room[..count])
     }

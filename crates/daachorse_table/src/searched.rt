@@ -147,7 +147,7 @@ pub fn error_of(case: &Case, width: Width) -> Option<ErrorKind> {
     }
 }
 
-/// What is read by blocks of three bytes, and interrupted before each.
+/// What is read by blocks of three bytes, and interrupted three times before each.
 pub fn in_short_blocks(alloc: Global, bytes: &[u8]) -> io::Result<BufReader<Slow<'_>>> {
     BufReader::with_capacity(alloc, 3, Slow::new(bytes))
 }

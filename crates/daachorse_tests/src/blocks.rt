@@ -34,13 +34,14 @@ fn is_as_whole<S: Automaton<Alloc = Global>>(
 #[test]
 fn blocks_are_joined(rt: HostRuntime) -> Result<(), Fail> {
     let alloc = rt.alloc();
-    let text = long_text(alloc, 'a', 'b', 200_000)?;
+    let text = long_text(alloc, 'a', 'b', 1_048_576)?;
     let long = "a".repeat(alloc, 70_000)?;
     let short = [("aba", 0), ("aab", 1)];
     let long = [(long.as_str(), 0), ("ab", 1)];
     for way in [BUILT, LONGEST] {
         for patvals in [&short, &long] {
-            let holds = is_as_whole::<Bytewise>(alloc, way, patvals, &text, 200_000 + 2 * 199)?;
+            let len = 1_048_576 + 2 * 1_048;
+            let holds = is_as_whole::<Bytewise>(alloc, way, patvals, &text, len)?;
             expect(&rt, holds, patvals[1].0);
         }
     }

@@ -7,35 +7,38 @@ use std::alloc::Global;
 use std::io::{self, ErrorKind, Read};
 use std::test::Fail;
 
-/// A reader that gives at most three bytes a call, is interrupted before each, and then fails with
-/// this error, if there is one.
+/// A reader that gives at most three bytes a call, is interrupted three times before each, and then
+/// fails with this error, or comes to its end. Past either it would give more.
 #[derive(Drop)]
 pub struct Slow {
     left: &'static [u8],
-    is_ready: bool,
+    interruptions: u8,
     error: Option<ErrorKind>,
 }
 
 impl Read for Slow {
     fn read(&mut self, room: &mut [u8]) -> io::Result<usize> {
-        self.is_ready = !self.is_ready;
-        if self.is_ready {
+        if self.interruptions < 3 {
+            self.interruptions += 1;
             return Err(io::Error::from(ErrorKind::Interrupted));
         }
-        match self.error {
-            Some(error) if self.left.is_empty() => Err(io::Error::from(error)),
-            _ => {
-                let count = room.len().min(3);
-                self.left.read(&mut room[..count])
-            }
+        self.interruptions = 0;
+        if self.left.is_empty() {
+            self.left = b"ab";
+            return match self.error {
+                Some(error) => Err(io::Error::from(error)),
+                None => Ok(0),
+            };
         }
+        let count = room.len().min(3);
+        self.left.read(&mut room[..count])
     }
 }
 
 pub fn slowly(left: &'static [u8], error: Option<ErrorKind>) -> Slow {
     Slow {
         left,
-        is_ready: false,
+        interruptions: 0,
         error,
     }
 }

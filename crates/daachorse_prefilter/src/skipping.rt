@@ -1,4 +1,5 @@
-//! A prefilter with a gate and a test, which moves a haystack on to the next candidate.
+//! A prefilter with a gate, and with buckets if there are some, which moves a haystack on to the
+//! next candidate.
 //!
 //! It is asked while its gate is open. No match of a search depends on the gate.
 

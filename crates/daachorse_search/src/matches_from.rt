@@ -29,11 +29,10 @@ where
     // The number of bytes read.
     place: usize,
     output: Option<NonZeroU32>,
-    // A copy of the walk's automaton, so that a field's type names what is borrowed.
-    automaton: W::Automaton,
     // Counts the matches given.
     seen: Seen,
-    of: PhantomData<V>,
+    // Names what the walk borrows.
+    of: PhantomData<(V, W::Automaton)>,
 }
 
 impl<V: Copy, W: Stepwise<V>, S: Source<W::Unit>> Model for MatchesFrom<V, W, S>
@@ -78,14 +77,12 @@ where
         ensures most { result.most ≡ W.sees.most_found (W.sees.automaton walk) }
     {
         let output = walk.begin();
-        let automaton = walk.walked();
         Self {
             walk,
             source,
             folds,
             place: 0,
             output,
-            automaton,
             seen: Seen::new(),
             of: PhantomData,
         }

@@ -33,31 +33,6 @@ where
         (λ _. IsReady S.can_next S.next_gives S.remaining (unit_as_read folds W.Unit.unit) W.Unit.width source.new (size W.Unit.width (W.sees.read walk.new))) }
     ensures stops { IfSome result (λ _. Stops W.sees walk.new result) }
 {
-    // Asked before the loop, so that each answer has a loop of its own.
-    if walk.finds_everywhere() {
-        return scan_units::<V, W, S, FOLDED>(walk, source, place, folds);
-    }
-    scan_units::<V, W, S, FOLDED>(walk, source, place, folds)
-}
-
-/// Does the work of [`scan`].
-#[inline(always)]
-fn scan_units<V: Copy, W: Stepwise<V>, S: Source<W::Unit>, const FOLDED: bool>(
-    walk: &mut W,
-    source: &mut S,
-    place: &mut usize,
-    folds: bool,
-) -> Option<NonZeroU32>
-where
-    W::Unit: AsciiFold,
-    requires ready { IsReady S.can_next S.next_gives S.remaining (unit_as_read folds W.Unit.unit) W.Unit.width source.old (size W.Unit.width (W.sees.read walk.old)) }
-    requires here { place.old ≡ size W.Unit.width (W.sees.read walk.old) }
-    ensures took { ScanGives W.sees S.next_gives S.remaining (unit_as_read folds W.Unit.unit) walk.old source.old result walk.new source.new }
-    ensures here { place.new ≡ size W.Unit.width (W.sees.read walk.new) }
-    ensures ready { MatchOption result (IsFinite (S.remaining source.new))
-        (λ _. IsReady S.can_next S.next_gives S.remaining (unit_as_read folds W.Unit.unit) W.Unit.width source.new (size W.Unit.width (W.sees.read walk.new))) }
-    ensures stops { IfSome result (λ _. Stops W.sees walk.new result) }
-{
     'units: loop {
         let Some(unit) = source.next_at(place, folds) else {
             return None;

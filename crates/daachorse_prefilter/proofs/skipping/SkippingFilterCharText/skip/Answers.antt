@@ -1,4 +1,4 @@
--- The filter and the test are asked over the text that is still to come, at its boundaries.
+-- The filter and the buckets are asked over the text that is still to come, at its boundaries.
 use Rattle.std.proofs.Common.{◌≡◌, ℕ, ◌&&◌, ◌++◌, List, take, drop, Option, Some, sym, ap, ◌∙◌, subst}
 use Rattle.std.specs.Borrow.{Bor}
 use Rattle.std.specs.Prelude.{option_map, encode_utf8_all}

@@ -1,4 +1,4 @@
--- The filter and the test are asked over the bytes that are still to come.
+-- The filter and the buckets are asked over the bytes that are still to come.
 use Rattle.std.proofs.Common.{◌≡◌, ℕ, ◌≤◌, ◌&&◌, ◌++◌, List, length, take, drop, Option, Some, sym, ap, ◌∙◌, subst, take-append-drop}
 use Rattle.std.specs.Borrow.{Bor}
 use Rattle.std.specs.Prelude.{option_map}

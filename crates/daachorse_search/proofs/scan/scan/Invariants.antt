@@ -5,7 +5,7 @@ use Rattle.daachorse_model.specs.Units.{size}
 use Rattle.daachorse_haystack.specs.Readings.{unit_as_read}
 use Rattle.daachorse_haystack.specs.Sources.{IsReady}
 use Rattle.daachorse_search.specs.Scans.{ScansOver}
-use Rattle.daachorse_search.proofs.scan.scan_units.Given as goal
+use Rattle.daachorse_search.proofs.scan.scan.Given as goal
 
 abbrev pub invariant-units : goal.invariant-units
 invariant-units g l =

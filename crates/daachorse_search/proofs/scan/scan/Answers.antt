@@ -7,7 +7,7 @@ use Rattle.daachorse_haystack.specs.Sources.{IsReady}
 use Rattle.daachorse_haystack.proofs.ReadingLaws.{IsReady-as_it_is, ended_as_read, took_as_read}
 use Rattle.daachorse_haystack.proofs.SourceLaws.{IsReady-more}
 use Rattle.daachorse_search.proofs.ScanLaws.{ScansOver-more, none_found}
-use Rattle.daachorse_search.proofs.scan.scan_units.Goals as goal
+use Rattle.daachorse_search.proofs.scan.scan.Goals as goal
 
 pub next_at-requires : goal.next_at-requires
 next_at-requires g c =

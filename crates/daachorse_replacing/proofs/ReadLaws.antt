@@ -52,7 +52,7 @@ module _ {R : Type 0} (known : R → Option (List ℕ)) where
   are_scalars s (c ∷ units) t (j, gave, run) = All-cons IsScalar c units gave.0 (are_scalars j units t run)
 
   at_end : (s t : Reading R) → GivesCharacter known s None t → t.failure ≡ None → IsAtEnd (to_give known s)
-  at_end s t (inl gave) whole = gave.1 whole
+  at_end s t (inl gave) whole = gave.3 whole
   at_end s t (inr fails) whole = absurd (false≢true (subst IsSome whole fails.failed))
 
   starts_from : {source : Reading R} {reader : R} {left : Option (List ℕ)} → source ≡ to_read reader → known reader ≡ left → to_give known source ≡ left
@@ -67,7 +67,7 @@ module _ {V P O F R : Type 0} (bytes : P → List ℕ) (taken : O → Option (Li
     are = λ k d inside. tt;
     all =
         subst (λ o. IfSome o (λ l. l ≡ h.units)) (starts_from known reads same)
-        (all_taken (to_give known source) (to_give known h.last) h.units (byte_taken known source h.units h.last h.took) (h.ends.1 h.whole));
+        (all_taken (to_give known source) (to_give known h.last) h.units (byte_taken known source h.units h.last h.took) (h.ends.3 h.whole));
     replaced =
         let Q : List ℕ → List ℕ → Type 0 = λ text units. IsReplaced bytes taken text step (found units) f old new in
         let M : (List ℕ → List (Match V)) → Type 0 = λ m. IsReplaced bytes taken h.units step (m h.units) f old new in

@@ -112,7 +112,8 @@ module _ {R : Type 0} (known : R → Option (List ℕ)) where
 
   -- where the reader's bytes were kept, what is given next is what was to be given before
   pub gives_kept : (s mid t : Reading R) (b : Option ℕ) → Keeps (to_give known s) (to_give known mid) → mid.left ≡ s.left → GivesByte known mid b t → GivesByte known s b t
-  gives_kept s mid t None kept same gave = (Keeps-trans (to_give known s) (to_give known mid) (to_give known t) kept gave.0, λ whole. kept_ended (to_give known s) (to_give known mid) kept (gave.1 whole))
+  gives_kept s mid t None kept same gave =
+      (Keeps-trans (to_give known s) (to_give known mid) (to_give known t) kept gave.0, gave.1 ∙ same, gave.2, λ whole. kept_ended (to_give known s) (to_give known mid) kept (gave.3 whole))
   gives_kept s mid t (Some b) kept same gave = (kept_taken (to_give known s) (to_give known mid) (to_give known t) (b ∷ []) kept gave.0, gave.1 ∙ same)
 
   bytes_kept : (s mid t : Reading R) (bytes : List ℕ) → 0 < length bytes → Keeps (to_give known s) (to_give known mid) → mid.left ≡ s.left → Yields (GivesByte known) mid bytes t → Yields (GivesByte known) s bytes t
@@ -121,5 +122,12 @@ module _ {R : Type 0} (known : R → Option (List ℕ)) where
 
   pub character_kept : (s mid t : Reading R) (c : Option ℕ) → Keeps (to_give known s) (to_give known mid) → mid.left ≡ s.left → GivesCharacter known mid c t → GivesCharacter known s c t
   character_kept s mid t None kept same (inl gave) = inl (gives_kept s mid t None kept same gave)
-  character_kept s mid t None kept same (inr fails) = inr (record { bytes = fails.bytes; took = kept_taken (to_give known s) (to_give known mid) (to_give known t) fails.bytes kept fails.took; failed = fails.failed })
+  character_kept s mid t None kept same (inr fails) = inr (record {
+    bytes = fails.bytes;
+    took = kept_taken (to_give known s) (to_give known mid) (to_give known t) fails.bytes kept fails.took;
+    fewer = fails.fewer ∙ same;
+    failed = fails.failed;
+    none = fails.none;
+    cause = fails.cause;
+  })
   character_kept s mid t (Some c) kept same (scalar, run) = (scalar, bytes_kept s mid t (encode_utf8 c) (spelled c) kept same run)

@@ -4,6 +4,7 @@ pub mod Nothing
 pub mod Scans
 pub mod Stepwise
 pub mod Searches
+pub mod Spellings
 pub mod Readers
 pub mod ByteReaders
 pub mod CharacterReaders

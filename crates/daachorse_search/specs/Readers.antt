@@ -1,5 +1,5 @@
 -- A search over a reader: what callers see of the source that reads it, and what each call gives.
-use Rattle.std.specs.Prelude.{◌≡◌, ◌≢◌, ℕ, ◌+◌, ◌*◌, ◌-◌, ◌^◌, ◌<◌, ◌⊎◌, List, [], ◌∷◌, length, Option, Some, None, IfSome, IsSome, Result, Ok, Err, ⊤}
+use Rattle.std.specs.Prelude.{◌≡◌, ◌≢◌, ℕ, ◌+◌, ◌*◌, ◌-◌, ◌^◌, ◌<◌, ◌⊎◌, List, [], ◌∷◌, ◌++◌, length, Option, Some, None, IfSome, IsSome, IsSomeAnd, Result, Ok, Err, ⊤}
 use Rattle.std.specs.Char.{IsScalar, encode_utf8}
 use Rattle.std.specs.Io.KnownBytes.{Consumes, IsAtEnd, Keeps, prepend_known}
 use Rattle.std.specs.IoError.{error_kind}
@@ -8,21 +8,25 @@ use Rattle.std.specs.declared.io.BufReader.{BufReader}
 use Rattle.std.specs.Iterator.{Count, Yields, at_most, count_map}
 use Rattle.std.specs.Option.{option_map}
 use Rattle.std.specs.declared.io.Error.{Error}
-use Rattle.std.specs.declared.io.ErrorKind.TheVariants.{Interrupted}
+use Rattle.std.specs.declared.io.ErrorKind.TheVariants.{FileTooLarge, Interrupted, InvalidData}
 use Rattle.daachorse_model.specs.declared.Match.{Match}
 use Rattle.daachorse_model.specs.Units.{byte_width, char_width, size}
 use Rattle.daachorse_search.specs.Searches.{GivesFrom, SourceProgress}
+use Rattle.daachorse_search.specs.Spellings.{BeginNone, SpellNone}
 
--- what callers see of a source that reads a reader R: the reader, the bytes that were taken from it in a block and are still to be given, how many more bytes have places that fit, and the error at which the source ended, if it did
+-- what callers see of a source that reads a reader R: the reader, the bytes that were taken from it in a block and are still to be given,
+-- how many more bytes have places that fit, the error at which the source ended, if it did, and how the reader ended, with an error or
+-- with none, if it did
 pub record Reading (R : Type 0) : Type 0 where
   pub reader : R
   pub ahead : List ℕ
   pub left : ℕ
   pub failure : Option Error
+  pub end : Option (Option Error)
 
 -- nothing was read yet
 abbrev pub to_read : {R : Type 0} → R → Reading R
-to_read r = record { reader = r; ahead = []; left = 2 ^ 64 - 1; failure = None }
+to_read r = record { reader = r; ahead = []; left = 2 ^ 64 - 1; failure = None; end = None }
 
 -- A reader with these bytes left, where they are known, gave the next of them, or was at its end.
 abbrev pub TakesNext : Option (List ℕ) → Option ℕ → Option (List ℕ) → Type 0
@@ -34,27 +38,39 @@ abbrev pub behind : List ℕ → Option (List ℕ) → Option (List ℕ)
 behind [] known = known
 behind (b ∷ bytes) known = prepend_known (b ∷ bytes) known
 
+-- the source ended as its reader did, or no place is left for a byte
+abbrev pub HasEnded : {R : Type 0} → Reading R → Type 0
+HasEnded t = (t.end ≡ Some t.failure) ⊎ ((t.left ≡ 0) × IsSomeAnd t.failure (λ e. error_kind e ≡ FileTooLarge))
+
+-- the error of bytes that are no UTF-8
+abbrev pub IsWrongText : Option Error → Type 0
+IsWrongText failure = IsSomeAnd failure (λ e. error_kind e ≡ InvalidData)
+
 -- where `known` is what a reader has left, if that is known
 module _ {R : Type 0} (known : R → Option (List ℕ)) where
   -- what the source has still to give, if that is known
   abbrev pub to_give : Reading R → Option (List ℕ)
   to_give s = behind s.ahead (known s.reader)
 
-  -- a call took the reader's next byte, or none, and then the reader is at its end or the source failed
+  -- A call took the reader's next byte. Or it took none: the reader ended, with an error or at its end, or no place is left.
   abbrev pub GivesByte : Reading R → Option ℕ → Reading R → Type 0
   GivesByte s (Some b) t = Consumes (to_give s) (to_give t) (b ∷ []) × (t.left + 1 ≡ s.left)
-  GivesByte s None t = Keeps (to_give s) (to_give t) × (t.failure ≡ None → IsAtEnd (to_give s))
+  GivesByte s None t = Keeps (to_give s) (to_give t) × (t.left ≡ s.left) × HasEnded t × (t.failure ≡ None → IsAtEnd (to_give s))
 
-  -- some bytes were taken, and then the source failed
-  pub record Fails (s t : Reading R) : Type 0 where
+  -- After the bytes `before` some were taken, and then the source failed: together they are no character. Either no more came, or no
+  -- character begins with them.
+  pub record Fails (before : List ℕ) (s t : Reading R) : Type 0 where
     pub bytes : List ℕ
     pub took : Consumes (to_give s) (to_give t) bytes
+    pub fewer : t.left + length bytes ≡ s.left
     pub failed : IsSome t.failure
+    pub none : SpellNone (before ++ bytes)
+    pub cause : HasEnded t ⊎ (IsWrongText t.failure × ((t.end ≡ Some None) ⊎ BeginNone (before ++ bytes)))
 
-  -- A call took the bytes of the reader's next character and no others. Or the reader was at its end, or the source failed, as it does at bytes that are no UTF-8.
+  -- A call took the bytes of the reader's next character and no others. Or the source ended, or failed at bytes that are no UTF-8.
   abbrev pub GivesCharacter : Reading R → Option ℕ → Reading R → Type 0
   GivesCharacter s (Some c) t = IsScalar c × Yields GivesByte s (encode_utf8 c) t
-  GivesCharacter s None t = GivesByte s None t ⊎ Fails s t
+  GivesCharacter s None t = GivesByte s None t ⊎ Fails [] s t
 
 -- where these bytes were taken, the places of all that are left fit
 abbrev pub MayReadBytes : {R : Type 0} → Reading R → List ℕ → Type 0
@@ -75,7 +91,7 @@ abbrev pub IsLasting : Error → Type 0
 IsLasting e = error_kind e ≢ Interrupted
 
 module _ {V A S U : Type 0} (found : A → List ℕ → List (Match V)) (steps : S → Option U → S → Type 0) (left : S → Count) (unit : U → ℕ) (width : ℕ → ℕ) (failure : S → Option Error) where
-  -- A call gives the next match. Behind the last match it gives the error at which the source ended, if it did, and then nothing for ever.
+  -- A call gives the next match. After the last match it gives the error at which the source ended, if it did, and then nothing for ever.
   abbrev pub GivesRead : Option (SourceProgress V A S) → Option (Result (Match V) Error) → Option (SourceProgress V A S) → Type 0
   GivesRead (Some s) (Some (Ok m)) (Some t) = GivesFrom found steps left unit width s (Some m) t
   GivesRead (Some s) r None = (t : SourceProgress V A S) × GivesFrom found steps left unit width s None t × (r ≡ option_map Err (failure t.source)) × IfSome (failure t.source) IsLasting

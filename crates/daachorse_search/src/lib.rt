@@ -20,6 +20,7 @@ pub mod overlapping_stepper;
 pub mod pieces;
 pub mod read_chars;
 pub mod reader;
+pub mod reader_end;
 pub mod scan;
 pub mod step_unit;
 pub mod stepper;

@@ -1,9 +1,10 @@
 //! The characters of a reader.
 
-ghost use Rattle.std.specs.Prelude.{◌≡◌, ◌+◌, ◌*◌, ◌<◌, ◌≤◌, ◌^◌, ℕ, List, [], ◌∷◌, IfNone, IfSome, MatchOption, Some};
+ghost use Rattle.std.specs.Prelude.{◌≡◌, ◌+◌, ◌*◌, ◌<◌, ◌≤◌, ◌^◌, ℕ, List, [], ◌∷◌, IfNone, IfSome, Some};
 ghost use Rattle.std.specs.Char.{IsScalar, encode_utf8};
 ghost use Rattle.std.specs.Iterator.{Yields};
 ghost use Rattle.daachorse_search.specs.Readers.{Fails, GivesByte, MayReadCharacters, to_read};
+ghost use Rattle.daachorse_search.specs.Spellings.{HasCode, NeedsMore};
 
 use crate::reader::{ReadBytes, ReadSource};
 use daachorse_haystack::source::Source;
@@ -57,7 +58,7 @@ where
     fn take_wide(&mut self, first: u8) -> Option<char>
         requires { 128 ≤ first }
         ensures some { IfSome result (λ c. IsScalar c × (inner : List ℕ) × (encode_utf8 c ≡ first ∷ inner) × Yields (GivesByte R.remaining) self.old inner self.new) }
-        ensures none { IfNone result (Fails R.remaining self.old self.new) }
+        ensures none { IfNone result (Fails R.remaining (first ∷ []) self.old self.new) }
     {
         let lead = u32::from(first);
         if first < 0xc0 {
@@ -82,21 +83,27 @@ where
     /// Takes a byte inside a character, and appends its six bits to `code`.
     fn take_inner(&mut self, code: u32) -> Option<u32>
         requires { code < 2 ^ 20 }
-        ensures { MatchOption result (Fails R.remaining self.old self.new)
-            (λ after. (b : ℕ) × GivesByte R.remaining self.old (Some b) self.new × (128 ≤ b) × (b < 192) × (after + 128 ≡ code * 64 + b)) }
+        ensures none { IfNone result ((before : List ℕ) → NeedsMore before → Fails R.remaining before self.old self.new) }
+        ensures some { IfSome result (λ after. (b : ℕ) × GivesByte R.remaining self.old (Some b) self.new × (128 ≤ b) × (b < 192) × (after + 128 ≡ code * 64 + b)) }
     {
-        if let Some(byte) = self.bytes.next() {
-            if 0x80 <= byte && byte < 0xc0 {
-                return Some(code * 64 + u32::from(byte - 0x80));
+        match self.bytes.next() {
+            Some(byte) if 0x80 <= byte && byte < 0xc0 => {
+                Some(code * 64 + u32::from(byte - 0x80))
+            }
+            Some(_) => {
+                self.bytes.refuse_text();
+                None
+            }
+            None => {
+                self.bytes.refuse_end();
+                None
             }
         }
-        self.bytes.refuse_text();
-        None
     }
 
     /// The character of a code that is not less than `least`.
     fn checked(&mut self, code: u32, least: u32) -> Option<char>
-        ensures none { IfNone result (Fails R.remaining self.old self.new) }
+        ensures none { IfNone result ((before : List ℕ) → HasCode before code least → Fails R.remaining before self.old self.new) }
         ensures some { IfSome result (λ c. (c ≡ code) × (least ≤ c) × IsScalar c × (self.new ≡ self.old)) }
     {
         if code >= least {

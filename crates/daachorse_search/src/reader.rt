@@ -1,12 +1,13 @@
 //! Sources that read from a reader, up to its end or its first error.
 
-ghost use Rattle.std.specs.Prelude.{◌≡◌, [], Option, IfErr, IfOk, IfSome, IsSome, OnErr};
+ghost use Rattle.std.specs.Prelude.{◌≡◌, [], None, Option, Some, IfErr, IfOk, IfSome, MatchOption, OnErr};
 ghost use Rattle.std.specs.IoError.{error_kind};
 ghost use Rattle.std.specs.declared.io.Error.{Error};
 ghost use Rattle.std.specs.declared.io.ErrorKind.TheVariants.{OutOfMemory};
 ghost use Rattle.std.specs.Io.KnownBytes.{Keeps};
-ghost use Rattle.daachorse_search.specs.Readers.{IsInBlocks, IsLasting, MayReadBytes, TakesNext, to_read};
+ghost use Rattle.daachorse_search.specs.Readers.{IsInBlocks, IsLasting, IsWrongText, MayReadBytes, TakesNext, to_read};
 
+use crate::reader_end::ReaderEnd;
 use daachorse_core::ascii_fold::AsciiFold;
 use daachorse_haystack::source::Source;
 use std::alloc::Allocator;
@@ -44,6 +45,7 @@ pub struct ReadBytes<R> {
     // How many more bytes have a place that fits.
     left: u64,
     failure: Option<io::Error>,
+    end: ReaderEnd,
 }
 
 impl<R> Model for ReadBytes<R> {
@@ -52,7 +54,7 @@ impl<R> Model for ReadBytes<R> {
 
     ghost Value = { Reading R };
 
-    ghost view = { λ s. record { reader = s.reader; ahead = []; left = s.left; failure = s.failure } };
+    ghost view = { λ s. record { reader = s.reader; ahead = []; left = s.left; failure = s.failure; end = s.end } };
 
     ghost invariant = { λ s. IfSome s.failure IsLasting };
 }
@@ -67,6 +69,7 @@ impl<R: BufRead> ReadBytes<R> {
             reader,
             left: u64::MAX,
             failure: None,
+            end: ReaderEnd::none(),
         }
     }
 
@@ -79,31 +82,60 @@ impl<R: BufRead> ReadBytes<R> {
         (self.reader, self.left)
     }
 
-    /// A source that goes on with a reader, of which so many more bytes have a place that fits. It
-    /// has ended if there is an error at which it did.
-    ///
-    /// # Conditions
-    /// The error is no interruption.
-    pub fn from_parts(reader: R, left: u64, failure: Option<io::Error>) -> Self
-        requires { IfSome failure IsLasting }
-        ensures { result ≡ record { reader = reader; ahead = []; left = left; failure = failure } }
+    /// A source that goes on with a reader, of which so many more bytes have a place that fits.
+    pub fn from_parts(reader: R, left: u64) -> Self
+        ensures { result ≡ record { reader = reader; ahead = []; left = left; failure = None; end = None } }
     {
         Self {
             reader,
             left,
-            failure,
+            failure: None,
+            end: ReaderEnd::none(),
         }
     }
 
-    /// Fails at what was read last, which is no UTF-8, unless it has failed.
+    /// A source whose reader has ended, with an error or with none.
+    ///
+    /// # Conditions
+    /// The error is no interruption.
+    pub fn ended(reader: R, left: u64, failure: Option<io::Error>) -> Self
+        requires { IfSome failure IsLasting }
+        ensures { result ≡ record { reader = reader; ahead = []; left = left; failure = failure; end = Some failure } }
+    {
+        let end = ReaderEnd::with(&failure);
+        Self {
+            reader,
+            left,
+            failure,
+            end,
+        }
+    }
+
+    /// Fails at what was read last, which is no UTF-8.
     pub(crate) fn refuse_text(&mut self)
-        ensures reader { self.new.reader ≡ self.old.reader }
-        ensures ahead { self.new.ahead ≡ self.old.ahead }
-        ensures failure { IsSome self.new.failure }
+        ensures same { self.new ≡ record self.old { failure = self.new.failure } }
+        ensures failure { IsWrongText self.new.failure }
+    {
+        self.failure = Some(io::Error::from(ErrorKind::InvalidData));
+    }
+
+    /// Fails at the end of what it reads, which is no UTF-8, unless it has failed.
+    pub(crate) fn refuse_end(&mut self)
+        ensures same { self.new ≡ record self.old { failure = self.new.failure } }
+        ensures failure { MatchOption self.old.failure (IsWrongText self.new.failure) (λ e. self.new.failure ≡ Some e) }
     {
         if self.failure.is_none() {
-            self.failure = Some(io::Error::from(ErrorKind::InvalidData));
+            self.refuse_text();
         }
+    }
+
+    /// Ends as the reader did, with an error or with none.
+    fn end(&mut self, failure: Option<io::Error>)
+        requires { IfSome failure IsLasting }
+        ensures { self.new ≡ record self.old { failure = failure; end = Some failure } }
+    {
+        self.end = ReaderEnd::with(&failure);
+        self.failure = failure;
     }
 }
 
@@ -131,9 +163,12 @@ where
                 self.left -= 1;
                 Some(byte)
             }
-            Ok(None) => None,
+            Ok(None) => {
+                self.end(None);
+                None
+            }
             Err(error) => {
-                self.failure = Some(error);
+                self.end(Some(error));
                 None
             }
         }

@@ -215,10 +215,10 @@ fn skip_block<
     match take_block(&mut reader, most, stream, skipping, kept)? {
         Taken::Block(count) => {
             let left = left - count as u64;
-            Ok((ReadBytes::from_parts(reader, left, None), Some(true)))
+            Ok((ReadBytes::from_parts(reader, left), Some(true)))
         }
-        Taken::Nothing => Ok((ReadBytes::from_parts(reader, left, None), None)),
-        Taken::Ended(failure) => Ok((ReadBytes::from_parts(reader, left, failure), Some(false))),
+        Taken::Nothing => Ok((ReadBytes::from_parts(reader, left), None)),
+        Taken::Ended(failure) => Ok((ReadBytes::ended(reader, left, failure), Some(false))),
     }
 }
 

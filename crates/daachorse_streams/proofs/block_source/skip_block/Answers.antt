@@ -1,5 +1,5 @@
 -- What was taken of the reader was taken of what the source had to give.
-use Rattle.std.proofs.Common.{◌≡◌, [], ℕ, List, Option, sym, ap, ◌∙◌, subst, arith}
+use Rattle.std.proofs.Common.{◌≡◌, [], ℕ, inl, List, Option, Some, sym, ap, ◌∙◌, subst, arith}
 use Rattle.std.specs.Io.KnownBytes.{Consumes, Keeps}
 use Rattle.daachorse_search.specs.Readers.{Reading, behind, to_give}
 use Rattle.daachorse_streams.specs.declared.block_source.Taken.{Taken}
@@ -49,6 +49,15 @@ returns-in-Nothing-clause-ok g c =
 
 pub returns-in-Ended-clause-ok : goal.returns-in-Ended-clause-ok
 returns-in-Ended-clause-ok g c =
-    let known = g.R.Read.remaining in let to = c.from_parts-in-Ended.ensures in let took = taken g (goal.at.returns-in-Ended-clause-ok g c).In_ok-count (Ended c.in-Ended.failure) c.in-Ended.is in
-    let K : Option (List ℕ) → Type 0 = λ new. Keeps (to_give known c.args.source) new in
-    ((subst K (sym (ap (to_give known) to)) took.0, λ whole. took.1 (sym (ap (λ (x : Reading g.row.R.Denot). x.failure) to) ∙ whole)), took.3, took.4)
+    let known = g.R.Read.remaining in let to = c.ended.ensures in let failure = ap (λ (x : Reading g.row.R.Denot). x.failure) to in
+    let took = taken g (goal.at.returns-in-Ended-clause-ok g c).In_ok-count (Ended c.in-Ended.failure) c.in-Ended.is in
+    let K : Option (List ℕ) → Type 0 = λ new. Keeps (to_give known c.args.source) new in (
+      (
+        subst K (sym (ap (to_give known) to)) took.0,
+        ap (λ (x : Reading g.row.R.Denot). x.left) to ∙ c.into_parts-reader.ensures.left,
+        inl (ap (λ (x : Reading g.row.R.Denot). x.end) to ∙ ap Some (sym failure)),
+        λ whole. took.1 (sym failure ∙ whole),
+      ),
+      took.3,
+      took.4,
+    )

@@ -19,19 +19,25 @@ pub may_read_first : {S : Type 0} (may_read : S → List ℕ → Type 0) (folds 
 may_read_first may_read true source may = ([], may, refl)
 may_read_first may_read false source may = may
 
-module _ {V A S U : Type 0} (found : A → List ℕ → List (Match V)) (steps : S → Option U → S → Type 0) (left : S → Count) (unit : U → ℕ) (width : ℕ → ℕ) (failure : S → Option Error) where
-  last_gives : (s t : SourceProgress V A S) (o : Option Error) → GivesFrom found steps left unit width s None t → o ≡ failure t.source → IfSome o IsLasting
-      → GivesRead found steps left unit width failure (Some s) (option_map Err o) None
-  last_gives s t None last is lasting = (t, last, ap (option_map Err) is, subst (λ o. IfSome o IsLasting) is lasting)
-  last_gives s t (Some e) last is lasting = (t, last, ap (option_map Err) is, subst (λ o. IfSome o IsLasting) is lasting)
+module _ {V A S U : Type 0} (found : A → List ℕ → List (Match V)) (steps : S → Option U → S → Type 0) (left : S → Count) (unit : U → ℕ)
+    (width : ℕ → ℕ) (failure : S → Option Error)
+    (bounds : A → List ℕ → ℕ → Type 0) where
+  last_gives : (s t : SourceProgress V A S) (o : Option Error) → GivesFrom found steps left unit width s None t
+      → bounds t.automaton t.read t.turns → o ≡ failure t.source → IfSome o IsLasting
+      → GivesRead found steps left unit width failure bounds (Some s) (option_map Err o) None
+  last_gives s t None last few is lasting = (t, last, few, ap (option_map Err) is, subst (λ o. IfSome o IsLasting) is lasting)
+  last_gives s t (Some e) last few is lasting = (t, last, few, ap (option_map Err) is, subst (λ o. IfSome o IsLasting) is lasting)
 
   -- the search that stands in `before` ended, and the call gave what its source ended with
   pub GivesRead-last : {before after : Option (SourceProgress V A S)} {s t ended : SourceProgress V A S} {r : Option (Result (Match V) Error)} {o : Option Error}
-      → before ≡ Some s → GivesFrom found steps left unit width s None t → ended ≡ t → after ≡ None → o ≡ failure ended.source → IfSome o IsLasting → r ≡ option_map Err o
-      → GivesRead found steps left unit width failure before r after
-  GivesRead-last {before = before} {after = after} {s = s} {t = t} {ended = ended} {r = r} {o = o} was last same gone is lasting gave =
-      let Last = GivesRead found steps left unit width failure in
-      let gives : Last (Some s) (option_map Err o) None = last_gives s t o last (is ∙ ap (λ (x : SourceProgress V A S). failure x.source) same) lasting in
+      → before ≡ Some s → GivesFrom found steps left unit width s None t → ended ≡ t → bounds ended.automaton ended.read ended.turns
+      → after ≡ None → o ≡ failure ended.source
+      → IfSome o IsLasting → r ≡ option_map Err o → GivesRead found steps left unit width failure bounds before r after
+  GivesRead-last {before = before} {after = after} {s = s} {t = t} {ended = ended} {r = r} {o = o} was last same few gone is lasting gave =
+      let Last = GivesRead found steps left unit width failure bounds in
+      let B : SourceProgress V A S → Type 0 = λ x. bounds x.automaton x.read x.turns in
+      let gives : Last (Some s) (option_map Err o) None = last_gives s t o last (subst B same few)
+      (is ∙ ap (λ (x : SourceProgress V A S). failure x.source) same) lasting in
       subst (λ x. Last x r after) (sym was) (subst (λ x. Last (Some s) x after) (sym gave) (subst (λ x. Last (Some s) (option_map Err o) x) (sym gone) gives))
 
 -- a character has a byte

@@ -90,11 +90,16 @@ pub record IsInBlocks {R A : Type 0} (known : R → Option (List ℕ)) (reader :
 abbrev pub IsLasting : Error → Type 0
 IsLasting e = error_kind e ≢ Interrupted
 
-module _ {V A S U : Type 0} (found : A → List ℕ → List (Match V)) (steps : S → Option U → S → Type 0) (left : S → Count) (unit : U → ℕ) (width : ℕ → ℕ) (failure : S → Option Error) where
+module _ {V A S U : Type 0} (found : A → List ℕ → List (Match V)) (steps : S → Option U → S → Type 0) (left : S → Count) (unit : U → ℕ)
+    (width : ℕ → ℕ) (failure : S → Option Error)
+    (bounds : A → List ℕ → ℕ → Type 0) where
   -- A call gives the next match. After the last match it gives the error at which the source ended, if it did, and then nothing for ever.
+  -- The turns are bounded there, too.
   abbrev pub GivesRead : Option (SourceProgress V A S) → Option (Result (Match V) Error) → Option (SourceProgress V A S) → Type 0
   GivesRead (Some s) (Some (Ok m)) (Some t) = GivesFrom found steps left unit width s (Some m) t
-  GivesRead (Some s) r None = (t : SourceProgress V A S) × GivesFrom found steps left unit width s None t × (r ≡ option_map Err (failure t.source)) × IfSome (failure t.source) IsLasting
+  GivesRead (Some s) r None =
+      (t : SourceProgress V A S) × GivesFrom found steps left unit width s None t × bounds t.automaton t.read t.turns ×
+      (r ≡ option_map Err (failure t.source)) × IfSome (failure t.source) IsLasting
   GivesRead None None None = ⊤
   GivesRead s r t = ⊥
 

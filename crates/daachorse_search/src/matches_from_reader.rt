@@ -76,7 +76,7 @@ where
 
     type Item = io::Result<Match<V>>;
 
-    ghost next_gives = { GivesRead W.sees.found S.next_gives S.remaining W.Unit.unit W.Unit.width S.failure };
+    ghost next_gives = { GivesRead W.sees.found S.next_gives S.remaining W.Unit.unit W.Unit.width S.failure W.sees.bounds };
 
     ghost remaining = { items_to_read S.remaining };
 
@@ -87,6 +87,8 @@ where
             return Some(Ok(found));
         }
         let ended = self.matches.take()?;
+        // The turns of the last call are bounded, too.
+        ended.turns_are_bounded();
         Some(Err(ended.into_source().into_failure()?))
     }
 }

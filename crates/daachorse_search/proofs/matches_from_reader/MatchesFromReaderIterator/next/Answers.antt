@@ -13,7 +13,8 @@ returns-in_err-into_failure-clause-steps g c =
     let same : c.in_ok-ended.ended ≡ c.next.new.self = some_same c.in_ok-ended.ensures.value in
     let source = c.into_source.ensures in
     let none : c.into_failure.result ≡ None = c.in_err-into_failure.was in
-    GivesRead-last _ _ _ _ _ _ was c.in_default.ensures.steps same c.take.ensures.after (c.into_failure.ensures.failure ∙ ap g.S.ReadSource.failure source) c.into_failure.ensures.lasting
+    GivesRead-last _ _ _ _ _ _ _ was c.in_default.ensures.steps same c.turns_are_bounded.ensures c.take.ensures.after
+    (c.into_failure.ensures.failure ∙ ap g.S.ReadSource.failure source) c.into_failure.ensures.lasting
     (c.from_residual-in_err-into_failure.ensures ∙ sym (ap (option_map Err) none))
 
 pub returns-clause-steps : goal.returns-clause-steps
@@ -22,5 +23,6 @@ returns-clause-steps g c =
     let same : c.in_ok-ended.ended ≡ c.next.new.self = some_same c.in_ok-ended.ensures.value in
     let source = c.into_source.ensures in
     let some : c.into_failure.result ≡ Some c.in_ok-into_failure.field-0 = c.in_ok-into_failure.was in
-    GivesRead-last _ _ _ _ _ _ was c.in_default.ensures.steps same c.take.ensures.after (c.into_failure.ensures.failure ∙ ap g.S.ReadSource.failure source) c.into_failure.ensures.lasting
+    GivesRead-last _ _ _ _ _ _ _ was c.in_default.ensures.steps same c.turns_are_bounded.ensures c.take.ensures.after
+    (c.into_failure.ensures.failure ∙ ap g.S.ReadSource.failure source) c.into_failure.ensures.lasting
     (sym (ap (option_map Err) some))

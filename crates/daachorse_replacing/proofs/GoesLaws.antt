@@ -1,6 +1,8 @@
 -- The loop over a source: what it took so far is what its stepper read, and went out but for what is held.
-use Rattle.std.proofs.Common.{◌≡◌, ℕ, ◌+◌, ◌<◌, ◌≤◌, ◌^◌, Bool, List, [], ◌∷◌, ◌++◌, length, Option, Some, None, Result, refl, sym, subst}
-use Rattle.std.specs.Prelude.{IfSome, flat_map, option_to_list}
+use Rattle.std.proofs.Common.{◌≡◌, ◌⊎◌, inl, inr, ℕ, ◌+◌, ◌<◌, ◌≤◌, ◌^◌, Bool, List, [], ◌∷◌, ◌++◌, length, Option, Some, None, Result, refl, sym, ap, ◌∙◌, subst}
+use Rattle.std.specs.Prelude.{IfSome, flat_map, map, option_to_list}
+use Rattle.std.proofs.lemmas.Grind.{flat_map-append}
+use Rattle.std.proofs.lemmas.List.{map-append}
 use Rattle.std.specs.Borrow.{MutBor}
 use Rattle.std.specs.Io.KnownBytes.{Appends}
 use Rattle.std.specs.Iterator.{Count, MakesProgress}
@@ -10,12 +12,13 @@ use Rattle.daachorse_model.specs.Dictionary.{Dictionary}
 use Rattle.daachorse_model.specs.Folding.{as_read, folded_unit}
 use Rattle.daachorse_model.specs.Matches.{standard, standard_after}
 use Rattle.daachorse_model.specs.Units.{size}
+use Rattle.daachorse_model.proofs.FoldLaws.{as_read-append}
 use Rattle.daachorse_haystack.specs.Sources.{IsReady}
 use Rattle.daachorse_replacing.specs.Replaced.{AppendsBeginning}
 use Rattle.daachorse_replacing.specs.ReplacedWith.{IsReplaced, IsReplacedSoFar}
-use Rattle.daachorse_replacing.specs.Streams.{EndsWithin, HasNoLonger, IsStreamed, IsStreamedSoFar, Settles, SettlesSoFar}
+use Rattle.daachorse_replacing.specs.Streams.{EndsWithin, HasNoLonger, IsStreamed, IsStreamedSoFar, IsStreamedUpTo, Settles, SettlesSoFar}
 use Rattle.daachorse_replacing.proofs.LeadsOn.{so_far_nothing}
-use Rattle.daachorse_replacing.proofs.SentLaws.{IsSent, sent-first, sent-more, sent-settled, sent-whole, sent-within, unsent-settled, unsent-whole}
+use Rattle.daachorse_replacing.proofs.SentLaws.{IsSent, sent-first, sent-more, sent-settled, sent-whole, sent-within, unsent-nothing, unsent-settled, unsent-whole}
 use Rattle.daachorse_replacing.proofs.StandardMatches.{standard-first, standard-more}
 use Rattle.daachorse_replacing.proofs.GaveUnitsLaws.{GaveUnits, form_more, sized_unit, gave-first, gave-fits, gave-more}
 
@@ -27,7 +30,12 @@ module _ {V P O F S U : Type 0} (bytes : P → List ℕ) (taken : O → Option (
 
   -- nothing was taken yet
   pub streams-nothing : (matches : List ℕ → List (Match V)) → IsStreamedSoFar bytes taken step steps failure unit form matches source first old old
-  streams-nothing matches = record { units = []; last = source; took = refl; replaced = so_far_nothing bytes taken step first old [] 0 (matches []) }
+  streams-nothing matches = record {
+    units = [];
+    last = source;
+    took = refl;
+    replaced = inl (λ more. so_far_nothing bytes taken step first old (flat_map form more) 0 (matches (map unit more)));
+  }
 
   -- at the head of the loop: of the units taken, the match that ends with the last is still to come
   pub record Goes (read : List ℕ) (s : S) (held : List ℕ) (f : F) (out : O) : Type 0 where
@@ -60,17 +68,25 @@ module _ {V P O F S U : Type 0} {bytes : P → List ℕ} {taken : O → Option (
     pub goes-fits : (u : U) (t : S) → steps s (Some u) t → MakesProgress can left s (Some u) t → size width read + width (unit u) < 2 ^ 64
     goes-fits u t took goes = gave-fits can steps left unit width folds source as_wide h.gave u t took goes
 
-    -- the output or the call for a match refused
-    pub stops-settling : (found : Option (Match V)) → found ≡ standard_after width K read → (new : O) → SettlesSoFar bytes taken step found held f out new
+    -- what went out is right however the source goes on
+    stopped : (new : O) → ((more d : List ℕ) → IsReplacedSoFar bytes taken (flat_map form h.units ++ more) step (standard width K (read ++ d)) first old new)
         → IsStreamedSoFar bytes taken step steps failure unit form (λ units. standard width K (as_read folds units)) source first old new
-    stops-settling found here new part = record {
+    stopped new replaced = record {
       units = h.units;
       last = s;
       took = h.gave.took;
-      replaced =
-          let R : List ℕ → Type 0 = λ l. IsReplacedSoFar bytes taken (flat_map form h.units) step (standard width K l) first old new in
-          subst R h.gave.is (unsent-settled bytes taken step first old width K longest bound h.sent found here h.gains new part);
+      replaced = inl (λ more. (
+          let d : List ℕ = as_read folds (map unit more) in
+          let R : List ℕ → List ℕ → Type 0 = λ text l. IsReplacedSoFar bytes taken text step (standard width K l) first old new in
+          let units : read ++ d ≡ as_read folds (map unit (h.units ++ more)) = ap (λ l. l ++ d) h.gave.is ∙ sym (as_read-append folds (map unit h.units) (map unit more)) ∙ ap (as_read folds) (sym (map-append unit h.units more)) in
+          subst (λ l. R (flat_map form (h.units ++ more)) l) units (subst (λ text. R text (read ++ d)) (sym (flat_map-append form h.units more)) (replaced (flat_map form more) d))
+          ));
     }
+
+    -- the output or the call for a match refused
+    pub stops-settling : (found : Option (Match V)) → found ≡ standard_after width K read → (new : O) → SettlesSoFar bytes taken step longest found held f out new
+        → IsStreamedSoFar bytes taken step steps failure unit form (λ units. standard width K (as_read folds units)) source first old new
+    stops-settling found here new part = stopped new (unsent-settled bytes taken step first old width K longest bound h.sent wide found here h.gains new part)
 
     module _ (found : Option (Match V)) (here : found ≡ standard_after width K read) (rest : List ℕ) (g : F) (new : O) (settles : Settles bytes taken step longest found held f out rest g new) where
       settled : IsSent bytes taken step first old width K longest (flat_map form h.units) read (standard width K read) rest g new
@@ -91,15 +107,23 @@ module _ {V P O F S U : Type 0} {bytes : P → List ℕ} {taken : O → Option (
             subst R h.gave.is (sent-whole bytes taken step first old width K longest bound settled last went);
       }
 
-      -- the output refused some of what was held, or nothing more went to it
-      pub stops-settled : (last : O) → AppendsBeginning (taken new) (taken last) rest → IsStreamedSoFar bytes taken step steps failure unit form (λ units. standard width K (as_read folds units)) source first old last
-      stops-settled last part = record {
+      -- nothing more went out
+      pub stops-settled : IsStreamedSoFar bytes taken step steps failure unit form (λ units. standard width K (as_read folds units)) source first old new
+      stops-settled = stopped new (unsent-nothing bytes taken step first old width K longest bound settled wide refl)
+
+      -- or the source came to its end, and the output refused some of what was held
+      pub stops-finishing : (ended : S) (last : O) (shown : List ℕ) → shown ≡ rest → steps s None ended → (last ≡ new) ⊎ ((failure ended ≡ None) × AppendsBeginning (taken new) (taken last) shown)
+          → IsStreamedSoFar bytes taken step steps failure unit form (λ units. standard width K (as_read folds units)) source first old last
+      stops-finishing ended last shown same ends (inl none) =
+          let P : O → Type 0 = λ o. IsStreamedSoFar bytes taken step steps failure unit form (λ units. standard width K (as_read folds units)) source first old o in
+          subst P (sym none) stops-settled
+      stops-finishing ended last shown same ends (inr (whole, part)) = record {
         units = h.units;
         last = s;
         took = h.gave.took;
         replaced =
             let R : List ℕ → Type 0 = λ l. IsReplacedSoFar bytes taken (flat_map form h.units) step (standard width K l) first old last in
-            subst R h.gave.is (unsent-whole bytes taken step first old width K longest bound settled last part);
+            inr ((ended, ends, whole), subst R h.gave.is (unsent-whole bytes taken step first old width K longest bound settled last (subst (AppendsBeginning (taken new) (taken last)) same part)));
       }
 
       -- one unit more

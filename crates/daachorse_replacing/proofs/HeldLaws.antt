@@ -1,6 +1,6 @@
 -- Some of the bytes held go out, without a match or with the next one, or more bytes come to them.
-use Rattle.std.proofs.Common.{◌≡◌, ℕ, ◌+◌, ◌-◌, ◌≤◌, List, [], ◌∷◌, ◌++◌, length, take, drop, Option, Result, Ok, Err, refl, sym, ap, ◌∙◌, subst, length-append, arith}
-use Rattle.std.proofs.lemmas.List.{drop-append-le, drop-drop, length-drop}
+use Rattle.std.proofs.Common.{◌≡◌, ℕ, ◌+◌, ◌-◌, ◌≤◌, List, [], ◌∷◌, ◌++◌, length, take, drop, Option, Result, Ok, Err, refl, sym, ap, ◌∙◌, subst, append-nil, length-append, arith}
+use Rattle.std.proofs.lemmas.List.{drop-append-le, drop-drop, length-drop, take_all}
 use Rattle.std.specs.Prelude.{slice_range}
 use Rattle.std.specs.Borrow.{MutBor}
 use Rattle.std.specs.Io.KnownBytes.{Appends}
@@ -43,9 +43,19 @@ module _ {V P O E F : Type 0} (bytes : P → List ℕ) (taken : O → Option (Li
     }
 
     -- or a beginning of them
-    pub unheld-within : (n : ℕ) (ms : List (Match V)) → Follows (place + n) ms → (new : O) → AppendsBeginning (taken out) (taken new) (take n held) → IsReplacedSoFar bytes taken text step (done ++ ms) first old new
-    unheld-within n ms after new part =
-        stops_within bytes taken step first old text done place f out h.leads n ms after new (subst (λ l. AppendsBeginning (taken out) (taken new) (take n l)) h.holds part)
+    pub unheld-within : (n : ℕ) → n ≤ length held → (ms : List (Match V)) → Follows (place + n) ms → (new : O) → AppendsBeginning (taken out) (taken new) (take n held)
+        → (more : List ℕ) → IsReplacedSoFar bytes taken (text ++ more) step (done ++ ms) first old new
+    unheld-within n inner ms after new part =
+        stops_within bytes taken step first old text done place f out h.leads n (omega (arith, held-count, inner)) ms after new
+        (subst (λ l. AppendsBeginning (taken out) (taken new) (take n l)) h.holds part)
+
+    -- or a beginning of all
+    pub unheld-whole : (new : O) → AppendsBeginning (taken out) (taken new) held → IsReplacedSoFar bytes taken text step done first old new
+    unheld-whole new part =
+        let T : List ℕ → Type 0 = λ l. IsReplacedSoFar bytes taken l step done first old new in
+        let D : List (Match V) → Type 0 = λ l. IsReplacedSoFar bytes taken (text ++ []) step l first old new in
+        subst T (append-nil text) (subst D (append-nil done)
+        (unheld-within (length held) (omega arith) [] tt new (subst (AppendsBeginning (taken out) (taken new)) (sym (take_all (length held) held (omega arith))) part) []))
 
     -- all went out
     pub held-whole : (new : O) → Appends (taken out) (taken new) held → IsReplaced bytes taken text step done first old new
@@ -75,12 +85,13 @@ module _ {V P O E F : Type 0} (bytes : P → List ℕ) (taken : O → Option (Li
       }
 
       -- the output took a beginning of the bytes before it
-      pub unheld-before : (new : O) → AppendsBeginning (taken out) (taken new) (take (m.start - place) held) → IsReplacedSoFar bytes taken text step (done ++ m ∷ ms) first old new
+      pub unheld-before : (new : O) → AppendsBeginning (taken out) (taken new) (take (m.start - place) held)
+          → (more : List ℕ) → IsReplacedSoFar bytes taken (text ++ more) step (done ++ m ∷ ms) first old new
       unheld-before new part = stops_before bytes taken step first old text done place f out h.leads m after.0 after.1 ends ms after.2 new (subst (AppendsBeginning (taken out) (taken new)) before_is part)
 
       -- the call for it returned an error
       pub unheld-at : (at new : O) (e : E) (g : F) → Appends (taken out) (taken at) (take (m.start - place) held) → MayWriteFor bytes step f m (slice_range held (m.start - place) (m.end - place)) at (Err e) new g
-          → IsReplacedSoFar bytes taken text step (done ++ m ∷ ms) first old new
+          → (more : List ℕ) → IsReplacedSoFar bytes taken (text ++ more) step (done ++ m ∷ ms) first old new
       unheld-at at new e g went call =
           stops_at bytes taken step first old text done place f out h.leads m after.0 after.1 ends ms after.2 at new e g (subst (Appends (taken out) (taken at)) before_is went)
           (let C : List ℕ → Type 0 = λ l. MayWriteFor bytes step f m l at (Err e) new g in subst C matched_is call)

@@ -65,6 +65,11 @@ module _ {V P O E F : Type 0} (bytes : P → List ℕ) (taken : O → Option (Li
   }
 
   module _ (text : List ℕ) (done : List (Match V)) (s : ℕ) (f : F) (out : O) (h : Leads text done s f out) where
+    -- the next n bytes of a longer text
+    past_is : (n : ℕ) → s + n ≤ length text → (more : List ℕ) → take n (drop s (text ++ more)) ≡ take n (drop s text)
+    past_is n inside more =
+        ap (take n) (drop-append-le s text more (omega (arith, inside))) ∙ take-append-le n (drop s text) more (omega (arith, inside, length-drop s text))
+
     -- n bytes went out, before any match that is to come
     pub leads_past : (n : ℕ) (next : O) → s + n ≤ length text → Appends (taken out) (taken next) (take n (drop s text)) → Leads text done (s + n) f next
     leads_past n next inside went = record {
@@ -72,19 +77,15 @@ module _ {V P O E F : Type 0} (bytes : P → List ℕ) (taken : O → Option (Li
       some = λ more ms new after rest. h.some more ms new (Follows-earlier s (s + n) ms (omega arith) after) (part more ms new after rest);
     }
       where
-        same : (more : List ℕ) → take n (drop s (text ++ more)) ≡ take n (drop s text)
-        same more =
-            ap (take n) (drop-append-le s text more (omega (arith, inside))) ∙ take-append-le n (drop s text) more (omega (arith, inside, length-drop s text))
-
         join : (more : List ℕ) (b : Option (List ℕ)) (later whole : List ℕ) → whole ≡ take n (drop s (text ++ more)) ++ later → Appends (taken next) b later → Appends (taken out) b whole
         join more b later whole e p =
-            subst (Appends (taken out) b) (sym (e ∙ ap (λ l. l ++ later) (same more))) (Appends-trans (taken out) (taken next) b (take n (drop s text)) later went p)
+            subst (Appends (taken out) b) (sym (e ∙ ap (λ l. l ++ later) (past_is n inside more))) (Appends-trans (taken out) (taken next) b (take n (drop s text)) later went p)
 
         begin : (more : List ℕ) (b : Option (List ℕ)) (later whole : List ℕ) → whole ≡ take n (drop s (text ++ more)) ++ later → AppendsBeginning (taken next) b later → AppendsBeginning (taken out) b whole
         begin more b later whole e (piece, left, is, p) = (
           take n (drop s text) ++ piece,
           left,
-          e ∙ ap (λ l. l ++ later) (same more) ∙ ap (λ l. take n (drop s text) ++ l) is ∙ sym (append_assoc (take n (drop s text)) piece left),
+          e ∙ ap (λ l. l ++ later) (past_is n inside more) ∙ ap (λ l. take n (drop s text) ++ l) is ∙ sym (append_assoc (take n (drop s text)) piece left),
           Appends-trans (taken out) (taken next) b (take n (drop s text)) piece went p,
         )
 
@@ -99,13 +100,6 @@ module _ {V P O E F : Type 0} (bytes : P → List ℕ) (taken : O → Option (Li
             inl (begin more (taken new) (slice_range (text ++ more) (s + n) m.start) (slice_range (text ++ more) s m.start) (joined (text ++ more) s n m.start after.0) went)
         part more (m ∷ ms) new after (inr (at, before, rest)) =
             inr (at, join more (taken at) (slice_range (text ++ more) (s + n) m.start) (slice_range (text ++ more) s m.start) (joined (text ++ more) s n m.start after.0) before, rest)
-
-    -- what comes of this text alone
-    stops_here : (ms : List (Match V)) → Follows s ms → (new : O) → IsReplacedSoFarFrom bytes taken text step s ms f out new → IsReplacedSoFar bytes taken text step (done ++ ms) first old new
-    stops_here ms after new rest =
-        let P : List ℕ → Type 0 = λ l. IsReplacedSoFar bytes taken l step (done ++ ms) first old new in
-        let Q : List ℕ → Type 0 = λ l. IsReplacedSoFarFrom bytes taken l step s ms f out new in
-        subst P (append-nil text) (h.some [] ms new after (subst Q (sym (append-nil text)) rest))
 
     module _ (m : Match V) (starts : s ≤ m.start) (ordered : m.start ≤ m.end) (ends : m.end ≤ length text) where
       before_is : (more : List ℕ) → slice_range (text ++ more) s m.start ≡ slice_range text s m.start
@@ -129,13 +123,19 @@ module _ {V P O E F : Type 0} (bytes : P → List ℕ) (taken : O → Option (Li
       }
 
       -- the output took a beginning of the bytes before the match
-      pub stops_before : (ms : List (Match V)) → Follows m.end ms → (new : O) → AppendsBeginning (taken out) (taken new) (slice_range text s m.start) → IsReplacedSoFar bytes taken text step (done ++ m ∷ ms) first old new
-      stops_before ms after new went = stops_here (m ∷ ms) (starts, ordered, after) new (inl went)
+      pub stops_before : (ms : List (Match V)) → Follows m.end ms → (new : O) → AppendsBeginning (taken out) (taken new) (slice_range text s m.start)
+          → (more : List ℕ) → IsReplacedSoFar bytes taken (text ++ more) step (done ++ m ∷ ms) first old new
+      stops_before ms after new went more =
+          h.some more (m ∷ ms) new (starts, ordered, after) (inl (subst (AppendsBeginning (taken out) (taken new)) (sym (before_is more)) went))
 
       -- the call for the match returned an error
-      pub stops_at : (ms : List (Match V)) → Follows m.end ms → (at new : O) (e : E) (g : F) → Appends (taken out) (taken at) (slice_range text s m.start) → MayWriteFor bytes step f m (slice_range text m.start m.end) at (Err e) new g
-          → IsReplacedSoFar bytes taken text step (done ++ m ∷ ms) first old new
-      stops_at ms after at new e g went call = stops_here (m ∷ ms) (starts, ordered, after) new (inr (at, went, inl (e, g, call)))
+      pub stops_at : (ms : List (Match V)) → Follows m.end ms → (at new : O) (e : E) (g : F) → Appends (taken out) (taken at) (slice_range text s m.start)
+          → MayWriteFor bytes step f m (slice_range text m.start m.end) at (Err e) new g
+          → (more : List ℕ) → IsReplacedSoFar bytes taken (text ++ more) step (done ++ m ∷ ms) first old new
+      stops_at ms after at new e g went call more =
+          let C : List ℕ → Type 0 = λ l. MayWriteFor bytes step f m l at (Err e) new g in
+          h.some more (m ∷ ms) new (starts, ordered, after)
+          (inr (at, subst (Appends (taken out) (taken at)) (sym (before_is more)) went, inl (e, g, subst C (sym (matched_is more)) call)))
 
     -- the rest went out
     pub all_out : (new : O) → Appends (taken out) (taken new) (drop s text) → IsReplaced bytes taken text step done first old new
@@ -146,9 +146,13 @@ module _ {V P O E F : Type 0} (bytes : P → List ℕ) (taken : O → Option (Li
         subst Q (append-nil done) (subst P (append-nil text) (h.all [] [] new tt (subst R (sym (append-nil text)) went)))
 
     -- the output took a beginning of the next n bytes, before any match that is to come
-    pub stops_within : (n : ℕ) (ms : List (Match V)) → Follows (s + n) ms → (new : O) → AppendsBeginning (taken out) (taken new) (take n (drop s text)) → IsReplacedSoFar bytes taken text step (done ++ ms) first old new
-    stops_within n [] after new went = stops_here [] tt new (AppendsBeginning-take (taken out) (taken new) n (drop s text) went)
-    stops_within n (m ∷ ms) after new (part, rest, is, went) =
-        let later = slice_range text (s + n) m.start in
-        stops_here (m ∷ ms) (Follows-earlier s (s + n) (m ∷ ms) (omega arith) after) new
-        (inl (part, rest ++ later, joined text s n m.start after.0 ∙ ap (λ l. l ++ later) is ∙ append_assoc part rest later, went))
+    pub stops_within : (n : ℕ) → s + n ≤ length text → (ms : List (Match V)) → Follows (s + n) ms → (new : O) → AppendsBeginning (taken out) (taken new) (take n (drop s text))
+        → (more : List ℕ) → IsReplacedSoFar bytes taken (text ++ more) step (done ++ ms) first old new
+    stops_within n inside ms after new went more =
+        h.some more ms new (Follows-earlier s (s + n) ms (omega arith) after) (within_more ms after (subst (AppendsBeginning (taken out) (taken new)) (sym (past_is n inside more)) went))
+      where
+        within_more : (ms : List (Match V)) → Follows (s + n) ms → AppendsBeginning (taken out) (taken new) (take n (drop s (text ++ more))) → IsReplacedSoFarFrom bytes taken (text ++ more) step s ms f out new
+        within_more [] after went = AppendsBeginning-take (taken out) (taken new) n (drop s (text ++ more)) went
+        within_more (m ∷ ms) after (part, rest, is, went) =
+            let later = slice_range (text ++ more) (s + n) m.start in
+            inl (part, rest ++ later, joined (text ++ more) s n m.start after.0 ∙ ap (λ l. l ++ later) is ∙ append_assoc part rest later, went)

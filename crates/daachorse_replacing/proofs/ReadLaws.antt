@@ -3,7 +3,7 @@ use Rattle.std.proofs.Common.{◌≡◌, ℕ, inl, inr, List, [], ◌∷◌, ◌
 use Rattle.std.proofs.lemmas.Bool.{false≢true}
 use Rattle.std.proofs.lemmas.List.{map-id}
 use Rattle.std.proofs.lemmas.List.Elements.{All-cons, All-nil}
-use Rattle.std.specs.Prelude.{All, IfSome, IsSome, OnErr, OnOk, ⊤, flat_map}
+use Rattle.std.specs.Prelude.{All, IfSome, IsSome, OnErr, OnOk, ⊤, flat_map, map}
 use Rattle.std.specs.Borrow.{MutBor}
 use Rattle.std.specs.Char.{IsScalar, encode_utf8}
 use Rattle.std.specs.Io.KnownBytes.{Consumes, IsAtEnd}
@@ -14,7 +14,7 @@ use Rattle.std.proofs.KnownBytes.{Consumes-nil, Consumes-trans}
 use Rattle.daachorse_model.specs.declared.Match.{Match}
 use Rattle.daachorse_search.specs.Readers.{GivesByte, GivesCharacter, Reading, to_give, to_read}
 use Rattle.daachorse_replacing.specs.ReplacedWith.{IsReplaced, IsReplacedSoFar}
-use Rattle.daachorse_replacing.specs.Streams.{IsReadReplaced, IsReadReplacedSoFar, IsStreamed, IsStreamedSoFar, ReplacesRead}
+use Rattle.daachorse_replacing.specs.Streams.{IsAtWholeEnd, IsReadReplaced, IsReadReplacedSoFar, IsStreamed, IsStreamedSoFar, ReplacesRead}
 use Rattle.daachorse_replacing.proofs.LeadsOn.{so_far_nothing}
 
 -- what was taken to the end is all that was known
@@ -61,13 +61,34 @@ module _ {R : Type 0} (known : R → Option (List ℕ)) where
 module _ {V P O F R : Type 0} (bytes : P → List ℕ) (taken : O → Option (List ℕ)) (step : F → Match V → P → MutBor O → Result (Unit {0}) Error → MutBor O → F → Type 0)
     {found matches : List ℕ → List (Match V)} (known : R → Option (List ℕ)) {source : Reading R} {reader : R} (f : F) (old new : O) {left : Option (List ℕ)}
     (reads : source ≡ to_read reader) (same : known reader ≡ left) (alike : found ≡ matches) where
+  -- bytes that were taken to the end are all that was known, and so are characters
+  all_bytes : (units : List ℕ) (last : Reading R) → Yields (GivesByte known) source units last → IsAtWholeEnd (GivesByte known) (λ (s : Reading R). s.failure) last → IfSome left (λ l. l ≡ units)
+  all_bytes units last took (ended, ends, whole) =
+      subst (λ o. IfSome o (λ l. l ≡ units)) (starts_from known reads same) (all_taken (to_give known source) (to_give known last) units (byte_taken known source units last took) (ends.3 whole))
+
+  all_characters : (units : List ℕ) (last : Reading R) → Yields (GivesCharacter known) source units last → IsAtWholeEnd (GivesCharacter known) (λ (s : Reading R). s.failure) last
+      → IfSome left (λ l. l ≡ encode_utf8_all units)
+  all_characters units last took (ended, ends, whole) =
+      subst (λ o. IfSome o (λ l. l ≡ encode_utf8_all units)) (starts_from known reads same)
+      (all_taken (to_give known source) (to_give known last) (encode_utf8_all units) (characters_taken known source units last took) (at_end known last ended ends whole))
+
+  bytes_up_to : (units : List ℕ) → IsReplacedSoFar bytes taken (flat_map (λ b. b ∷ []) units) step (found (map (λ b. b) units)) f old new → IsReplacedSoFar bytes taken units step (matches units) f old new
+  bytes_up_to units replaced =
+      let Q : List ℕ → List ℕ → Type 0 = λ text us. IsReplacedSoFar bytes taken text step (found us) f old new in
+      let M : (List ℕ → List (Match V)) → Type 0 = λ m. IsReplacedSoFar bytes taken units step (m units) f old new in
+      subst M alike (subst (λ text. Q text units) (bytes_are units) (subst (λ us. Q (flat_map (λ b. b ∷ []) units) us) (map-id units) replaced))
+
+  characters_up_to : (units : List ℕ) → IsReplacedSoFar bytes taken (flat_map encode_utf8 units) step (found (map (λ c. c) units)) f old new → IsReplacedSoFar bytes taken (encode_utf8_all units) step (matches units) f old new
+  characters_up_to units replaced =
+      let Q : List ℕ → List ℕ → Type 0 = λ text us. IsReplacedSoFar bytes taken text step (found us) f old new in
+      let M : (List ℕ → List (Match V)) → Type 0 = λ m. IsReplacedSoFar bytes taken (encode_utf8_all units) step (m units) f old new in
+      subst M alike (subst (λ text. Q text units) (characters_are units) (subst (λ us. Q (flat_map encode_utf8 units) us) (map-id units) replaced))
+
   read-bytes : IsStreamed bytes taken step (GivesByte known) (λ (s : Reading R). s.failure) (λ b. b) (λ b. b ∷ []) found source f old new → IsReadReplaced bytes taken step (λ b. ⊤) (λ b. b) left matches f old new
   read-bytes h = record {
     units = h.units;
     are = λ k d inside. tt;
-    all =
-        subst (λ o. IfSome o (λ l. l ≡ h.units)) (starts_from known reads same)
-        (all_taken (to_give known source) (to_give known h.last) h.units (byte_taken known source h.units h.last h.took) (h.ends.3 h.whole));
+    all = all_bytes h.units h.last h.took (h.ended, h.ends, h.whole);
     replaced =
         let Q : List ℕ → List ℕ → Type 0 = λ text units. IsReplaced bytes taken text step (found units) f old new in
         let M : (List ℕ → List (Match V)) → Type 0 = λ m. IsReplaced bytes taken h.units step (m h.units) f old new in
@@ -81,19 +102,14 @@ module _ {V P O F R : Type 0} (bytes : P → List ℕ) (taken : O → Option (Li
     begins =
         subst (λ o. IfSome o (λ l. (rest : List ℕ) × (l ≡ h.units ++ rest))) (starts_from known reads same)
         (some_taken (to_give known source) (to_give known h.last) h.units (byte_taken known source h.units h.last h.took));
-    replaced =
-        let Q : List ℕ → List ℕ → Type 0 = λ text units. IsReplacedSoFar bytes taken text step (found units) f old new in
-        let M : (List ℕ → List (Match V)) → Type 0 = λ m. IsReplacedSoFar bytes taken h.units step (m h.units) f old new in
-        subst M alike (subst (λ text. Q text h.units) (bytes_are h.units) (subst (λ units. Q (flat_map (λ b. b ∷ []) h.units) units) (map-id h.units) h.replaced));
+    replaced = elim h.replaced [ inl every ↦ inl (λ more. bytes_up_to (h.units ++ more) (every more)) | inr ends ↦ inr (all_bytes h.units h.last h.took ends.0, bytes_up_to h.units ends.1) ];
   }
 
   read-characters : IsStreamed bytes taken step (GivesCharacter known) (λ (s : Reading R). s.failure) (λ c. c) encode_utf8 found source f old new → IsReadReplaced bytes taken step IsScalar encode_utf8_all left matches f old new
   read-characters h = record {
     units = h.units;
     are = are_scalars known source h.units h.last h.took;
-    all =
-        subst (λ o. IfSome o (λ l. l ≡ encode_utf8_all h.units)) (starts_from known reads same)
-        (all_taken (to_give known source) (to_give known h.last) (encode_utf8_all h.units) (characters_taken known source h.units h.last h.took) (at_end known h.last h.ended h.ends h.whole));
+    all = all_characters h.units h.last h.took (h.ended, h.ends, h.whole);
     replaced =
         let Q : List ℕ → List ℕ → Type 0 = λ text units. IsReplaced bytes taken text step (found units) f old new in
         let M : (List ℕ → List (Match V)) → Type 0 = λ m. IsReplaced bytes taken (encode_utf8_all h.units) step (m h.units) f old new in
@@ -109,9 +125,7 @@ module _ {V P O F R : Type 0} (bytes : P → List ℕ) (taken : O → Option (Li
         subst (λ o. IfSome o (λ l. (rest : List ℕ) × (l ≡ encode_utf8_all h.units ++ rest))) (starts_from known reads same)
         (some_taken (to_give known source) (to_give known h.last) (encode_utf8_all h.units) (characters_taken known source h.units h.last h.took));
     replaced =
-        let Q : List ℕ → List ℕ → Type 0 = λ text units. IsReplacedSoFar bytes taken text step (found units) f old new in
-        let M : (List ℕ → List (Match V)) → Type 0 = λ m. IsReplacedSoFar bytes taken (encode_utf8_all h.units) step (m h.units) f old new in
-        subst M alike (subst (λ text. Q text h.units) (characters_are h.units) (subst (λ units. Q (flat_map encode_utf8 h.units) units) (map-id h.units) h.replaced));
+        elim h.replaced [ inl every ↦ inl (λ more. characters_up_to (h.units ++ more) (every more)) | inr ends ↦ inr (all_characters h.units h.last h.took ends.0, characters_up_to h.units ends.1) ];
   }
 
   -- whatever came of it
@@ -135,7 +149,7 @@ read-nothing bytes taken step is_unit spelled known matches f old none = record 
   units = [];
   are = All-nil is_unit;
   begins = by known;
-  replaced = so_far_nothing bytes taken step f old (spelled []) 0 (matches []);
+  replaced = inl (λ more. so_far_nothing bytes taken step f old (spelled more) 0 (matches more));
 }
   where
     by : (o : Option (List ℕ)) → IfSome o (λ l. (rest : List ℕ) × (l ≡ spelled [] ++ rest))

@@ -1,6 +1,6 @@
 -- Where a stream stands: what is held comes behind what was put out, and no match that is to come begins before it.
-use Rattle.std.proofs.Common.{◌≡◌, ◌⊎◌, inl, inr, ℕ, ◌+◌, ◌-◌, ◌≤◌, List, [], ◌∷◌, ◌++◌, length, take, drop, Option, Some, None, Result, Ok, Err, refl, sym, ap, ◌∙◌, subst, append-nil, length-append, arith}
-use Rattle.std.proofs.lemmas.List.{drop_all, take_all, take_rest}
+use Rattle.std.proofs.Common.{◌≡◌, ◌⊎◌, inl, inr, ℕ, ◌+◌, ◌-◌, ◌≤◌, List, [], ◌∷◌, ◌++◌, length, take, drop, Option, Some, None, Result, Ok, Err, refl, sym, ap, ◌∙◌, subst, append_assoc, append-nil, length-append, arith}
+use Rattle.std.proofs.lemmas.List.{drop_all, take_rest}
 use Rattle.std.specs.Prelude.{IfSome, option_to_list, slice_range}
 use Rattle.std.specs.Borrow.{MutBor}
 use Rattle.std.specs.Io.KnownBytes.{Appends}
@@ -13,8 +13,9 @@ use Rattle.daachorse_model.proofs.Suffixes.{size-append}
 use Rattle.daachorse_replacing.specs.Replaced.{AppendsBeginning}
 use Rattle.daachorse_replacing.specs.ReplacedWith.{IsReplaced, IsReplacedSoFar, MayWriteFor}
 use Rattle.daachorse_replacing.specs.Streams.{EndsWithin, HasNoLonger, IsHeld, Settles, SettlesSoFar, before_match}
-use Rattle.daachorse_replacing.proofs.HeldLaws.{held-behind, held-count, held-first, held-more, held-past, held-whole, unheld-at, unheld-before, unheld-within}
-use Rattle.daachorse_replacing.proofs.StandardMatches.{EndsHere, last_end-push, standard-behind, standard_after-ends}
+use Rattle.daachorse_replacing.proofs.HeldLaws.{held-behind, held-count, held-first, held-more, held-past, held-whole, unheld-at, unheld-before, unheld-whole, unheld-within}
+use Rattle.daachorse_replacing.proofs.LeadsOn.{AppendsBeginning-nothing}
+use Rattle.daachorse_replacing.proofs.StandardMatches.{EndsHere, last_end-push, standard-behind, standard-late, standard_after-ends}
 
 module _ {V P O E F : Type 0} (bytes : P → List ℕ) (taken : O → Option (List ℕ)) (step : F → Match V → P → MutBor O → Result (Unit {0}) E → MutBor O → F → Type 0) (first : F) (old : O)
     (width : ℕ → ℕ) (K : Dictionary V) (longest : ℕ) where
@@ -77,11 +78,13 @@ module _ {V P O E F : Type 0} (bytes : P → List ℕ) (taken : O → Option (Li
         behind = inl (omega (arith, last_end-push 0 done m));
       }
 
-      unsent-matched : (new : O) → SettlesSoFar bytes taken step (Some m) held f out new → IsReplacedSoFar bytes taken text step (done ++ m ∷ []) first old new
-      unsent-matched new (inl part) = unheld-before bytes taken step first old h.is m [] after inner new (subst (λ k. AppendsBeginning (taken out) (taken new) (take k held)) before part)
-      unsent-matched new (inr (at, e, g, went, call)) =
+      unsent-matched : (ms : List (Match V)) → Follows m.end ms → (new : O) → SettlesSoFar bytes taken step longest (Some m) held f out new
+          → (more : List ℕ) → IsReplacedSoFar bytes taken (text ++ more) step (done ++ m ∷ ms) first old new
+      unsent-matched ms later new (inl part) =
+          unheld-before bytes taken step first old h.is m ms (starts, ends.ordered, later) inner new (subst (λ k. AppendsBeginning (taken out) (taken new) (take k held)) before part)
+      unsent-matched ms later new (inr (at, e, g, went, call)) =
           let C : List ℕ → Type 0 = λ l. MayWriteFor bytes step f m l at (Err e) new g in
-          unheld-at bytes taken step first old h.is m [] after inner at new e g (subst (λ k. Appends (taken out) (taken at) (take k held)) before went) (subst C matched call)
+          unheld-at bytes taken step first old h.is m ms (starts, ends.ordered, later) inner at new e g (subst (λ k. Appends (taken out) (taken at) (take k held)) before went) (subst C matched call)
 
       within-matched : EndsWithin held m
       within-matched = (ends.ordered, omega (arith, count, starts, ends.ends, h.sized))
@@ -120,18 +123,30 @@ module _ {V P O E F : Type 0} (bytes : P → List ℕ) (taken : O → Option (Li
 
     -- or a beginning of them
     pub unsent-whole : (new : O) → AppendsBeginning (taken out) (taken new) held → IsReplacedSoFar bytes taken text step done first old new
-    unsent-whole new part =
-        let D : List (Match V) → Type 0 = λ l. IsReplacedSoFar bytes taken text step l first old new in
-        subst D (append-nil done) (unheld-within bytes taken step first old h.is (length held) [] tt new (subst (AppendsBeginning (taken out) (taken new)) (sym (take_all (length held) held (omega arith))) part))
+    unsent-whole = unheld-whole bytes taken step first old h.is
 
-    -- or a beginning of what was to be settled went out
-    pub unsent-settled : (found : Option (Match V)) → found ≡ standard_after width K read → standard width K read ≡ done ++ option_to_list (standard_after width K read)
-        → (new : O) → SettlesSoFar bytes taken step found held f out new → IsReplacedSoFar bytes taken text step (standard width K read) first old new
-    unsent-settled None is gains new part =
-        let none : standard width K read ≡ done = gains ∙ ap (λ o. done ++ option_to_list o) (sym is) ∙ append-nil done in
-        let D : List (Match V) → Type 0 = λ l. IsReplacedSoFar bytes taken text step l first old new in
-        subst D (sym none) (unsent-whole new part)
-    unsent-settled (Some m) is gains new part =
-        let one : standard width K read ≡ done ++ m ∷ [] = gains ∙ ap (λ o. done ++ option_to_list o) (sym is) in
-        let D : List (Match V) → Type 0 = λ l. IsReplacedSoFar bytes taken text step l first old new in
-        subst D (sym one) (unsent-matched m (sym is) one new part)
+    module _ (wide : (u : ℕ) → 1 ≤ width u) where
+      -- the output took a beginning of n bytes that no later match may need
+      unsent-past : standard width K read ≡ done → (n : ℕ) → (n ≡ 0) ⊎ (n + longest ≤ length held) → n ≤ length held → (new : O) → AppendsBeginning (taken out) (taken new) (take n held)
+          → (more d : List ℕ) → IsReplacedSoFar bytes taken (text ++ more) step (standard width K (read ++ d)) first old new
+      unsent-past all n many inner new part more d =
+          let settled : (h.place + n ≤ last_end 0 done) ⊎ (h.place + n + longest ≤ size width read) =
+          elim many [ inl none ↦ elim h.behind [ inl p ↦ inl (omega (arith, p, none)) | inr p ↦ inr (omega (arith, p, none, h.sized)) ] | inr p ↦ inr (omega (arith, p, count, h.sized)) ] in
+          let late = standard-late width K longest bound (h.place + n) wide read d done all settled in
+          let D : List (Match V) → Type 0 = λ l. IsReplacedSoFar bytes taken (text ++ more) step l first old new in
+          subst D (sym late.1) (unheld-within bytes taken step first old h.is n inner late.0 late.2 new part more)
+
+      -- nothing more went out
+      pub unsent-nothing : standard width K read ≡ done → (more d : List ℕ) → IsReplacedSoFar bytes taken (text ++ more) step (standard width K (read ++ d)) first old out
+      unsent-nothing all = unsent-past all 0 (inl refl) (omega arith) out (AppendsBeginning-nothing (taken out) [])
+
+      -- or a beginning of what was to be settled went out
+      pub unsent-settled : (found : Option (Match V)) → found ≡ standard_after width K read → standard width K read ≡ done ++ option_to_list (standard_after width K read)
+          → (new : O) → SettlesSoFar bytes taken step longest found held f out new → (more d : List ℕ) → IsReplacedSoFar bytes taken (text ++ more) step (standard width K (read ++ d)) first old new
+      unsent-settled None is gains new (n, many, part) more d =
+          unsent-past (gains ∙ ap (λ o. done ++ option_to_list o) (sym is) ∙ append-nil done) n (inr many) (omega (arith, many)) new part more d
+      unsent-settled (Some m) is gains new part more d =
+          let one : standard width K read ≡ done ++ m ∷ [] = gains ∙ ap (λ o. done ++ option_to_list o) (sym is) in
+          let late = standard-late width K longest bound m.end wide read d (done ++ m ∷ []) one (inl (omega (arith, last_end-push 0 done m))) in
+          let D : List (Match V) → Type 0 = λ l. IsReplacedSoFar bytes taken (text ++ more) step l first old new in
+          subst D (sym (late.1 ∙ append_assoc done (m ∷ []) late.0)) (unsent-matched m (sym is) one late.0 late.2 new part more)

@@ -1,6 +1,6 @@
--- The standard search, one unit further: it gains the match that ends there, if one does, and that match begins behind those before it, and takes no more bytes than the longest key.
-use Rattle.std.proofs.Common.{◌≡◌, ◌≢◌, ℕ, ◌+◌, ◌≤◌, ◌==◌, Bool, true, false, cond, List, [], ◌∷◌, ◌++◌, length, Some, refl, sym, ap, ◌∙◌, subst, append_assoc, append-nil, arith}
-use Rattle.std.specs.Prelude.{All, find, option_to_list}
+-- The standard search, further on: it gains matches that begin after those before them, and take no more bytes than the longest key. With one unit it gains at most one.
+use Rattle.std.proofs.Common.{◌≡◌, ◌≢◌, ◌⊎◌, inl, inr, ℕ, ◌+◌, ◌≤◌, ◌==◌, Bool, true, false, cond, List, [], ◌∷◌, ◌++◌, length, Option, Some, None, refl, sym, ap, ◌∙◌, subst, append_assoc, append-nil, arith}
+use Rattle.std.specs.Prelude.{All, find, option_to_list, ⊤}
 use Rattle.std.proofs.lemmas.Bool.{eqb-true}
 use Rattle.std.proofs.lemmas.List.Elements.{All-head, All-tail}
 use Rattle.daachorse_model.specs.declared.Match.{Match}
@@ -9,6 +9,8 @@ use Rattle.daachorse_model.specs.Folding.{as_read}
 use Rattle.daachorse_model.specs.Laws.{Follows, IsOccurrence}
 use Rattle.daachorse_model.specs.Matches.{at_each_end, last_end, standard, standard_after}
 use Rattle.daachorse_model.specs.Units.{size}
+use Rattle.daachorse_model.proofs.Overlap.{Follows-earlier}
+use Rattle.daachorse_model.proofs.Suffixes.{size-push}
 use Rattle.daachorse_model.proofs.Find.{standard_apart, standard_occur}
 use Rattle.daachorse_model.proofs.StandardEnds.{standard-joined}
 use Rattle.daachorse_replacing.specs.Streams.{HasNoLonger}
@@ -19,6 +21,19 @@ at_each_end-push f t (v ∷ w) u =
     ap (λ l. f t ++ l) (at_each_end-push f (t ++ v ∷ []) w u)
     ∙ sym (append_assoc (f t) (at_each_end f (t ++ v ∷ []) w) (f (((t ++ v ∷ []) ++ w) ++ u ∷ [])))
     ∙ ap (λ l. (f t ++ at_each_end f (t ++ v ∷ []) w) ++ f (l ++ u ∷ [])) (append_assoc t (v ∷ []) w)
+
+-- what f gives of the longer beginnings of the haystack
+abbrev after_each : {A : Type 0} → (List ℕ → List A) → List ℕ → List ℕ → List A
+after_each f t [] = []
+after_each f t (u ∷ d) = at_each_end f (t ++ u ∷ []) d
+
+at_each_end-append : {A : Type 0} (f : List ℕ → List A) (t w d : List ℕ) → at_each_end f t (w ++ d) ≡ at_each_end f t w ++ after_each f (t ++ w) d
+at_each_end-append f t [] [] = sym (append-nil (f t))
+at_each_end-append f t [] (u ∷ d) = ap (λ l. f t ++ at_each_end f (l ++ u ∷ []) d) (sym (append-nil t))
+at_each_end-append f t (v ∷ w) d =
+    ap (λ l. f t ++ l) (at_each_end-append f (t ++ v ∷ []) w d)
+    ∙ sym (append_assoc (f t) (at_each_end f (t ++ v ∷ []) w) (after_each f ((t ++ v ∷ []) ++ w) d))
+    ∙ ap (λ l. (f t ++ at_each_end f (t ++ v ∷ []) w) ++ after_each f l d) (append_assoc t (v ∷ []) w)
 
 -- what is found is in the list, and passes
 found_passes : {A : Type 0} (P : A → Type 0) (p : A → Bool) (xs : List A) (x : A) → All P xs → find p xs ≡ Some x → P x × (p x ≡ true)
@@ -35,6 +50,24 @@ found_passes P p (y ∷ ys) x all is = here (λ rest. found_passes P p ys x (All
 pub last_end-push : {V : Type 0} (r : ℕ) (ms : List (Match V)) (m : Match V) → last_end r (ms ++ m ∷ []) ≡ m.end
 last_end-push r [] m = refl
 last_end-push r (n ∷ ms) m = last_end-push n.end ms m
+
+-- matches after others follow the last of them
+pub Follows-behind : {V : Type 0} (s : ℕ) (before ms : List (Match V)) → Follows s (before ++ ms) → Follows (last_end s before) ms
+Follows-behind s [] ms follows = follows
+Follows-behind s (m ∷ before) ms follows = Follows-behind m.end before ms follows.2
+
+-- the first match, if there is one, starts at s or later
+abbrev pub StartsFrom : {V : Type 0} → ℕ → List (Match V) → Type 0
+StartsFrom s [] = ⊤
+StartsFrom s (m ∷ ms) = s ≤ m.start
+
+pub Follows-from : {V : Type 0} (r s : ℕ) (ms : List (Match V)) → Follows r ms → StartsFrom s ms → Follows s ms
+Follows-from r s [] follows from = tt
+Follows-from r s (m ∷ ms) follows from = (from, follows.1, follows.2)
+
+starts_in_front : {V : Type 0} (s : ℕ) (o : Option (Match V)) (ms : List (Match V)) → ((m : Match V) → o ≡ Some m → s ≤ m.start) → StartsFrom s ms → StartsFrom s (option_to_list o ++ ms)
+starts_in_front s None ms late from = from
+starts_in_front s (Some m) ms late from = late m refl
 
 Follows-last : {V : Type 0} (r : ℕ) (ms : List (Match V)) (m : Match V) → Follows r (ms ++ m ∷ []) → last_end r ms ≤ m.start
 Follows-last r [] m after = after.0
@@ -57,6 +90,32 @@ module _ {V : Type 0} (width : ℕ → ℕ) (K : Dictionary V) where
       let some : K o.key ≢ [] = λ none. absurd (omega (arith, o.has.1, ap length none)) in
       let short : size width o.key ≤ longest = bound o.key some in
       record { ends = eqb-true m.end (size width read) found.1; ordered = omega (arith, o.starts, o.ends); short = omega (arith, o.starts, o.ends, short) }
+
+  module _ (longest : ℕ) (bound : HasNoLonger width K longest) (s : ℕ) where
+    -- no match that ends after t starts before s, where the longest key does not reach back from the end of t so far
+    starts_late : (t d : List ℕ) → s + longest ≤ size width t → StartsFrom s (at_each_end (λ t. option_to_list (standard_after width K t)) t d)
+    starts_late t [] late = subst (StartsFrom s) (append-nil (option_to_list (standard_after width K t))) (starts_in_front s (standard_after width K t) [] (λ m is. here t m late is) tt)
+      where
+        here : (t : List ℕ) (m : Match V) → s + longest ≤ size width t → standard_after width K t ≡ Some m → s ≤ m.start
+        here t m late is = let ends = standard_after-ends longest bound t m is in omega (arith, ends.ends, ends.short, late)
+    starts_late t (u ∷ d) late =
+        starts_in_front s (standard_after width K t) _ (λ m is. (let ends = standard_after-ends longest bound t m is in omega (arith, ends.ends, ends.short, late)))
+        (starts_late (t ++ u ∷ []) d (omega (arith, late, size-push width t u)))
+
+    starts_after : (t d : List ℕ) → s + longest ≤ size width t → StartsFrom s (after_each (λ t. option_to_list (standard_after width K t)) t d)
+    starts_after t [] late = tt
+    starts_after t (u ∷ d) late = starts_late (t ++ u ∷ []) d (omega (arith, late, size-push width t u))
+
+    -- However the haystack goes on, its search adds matches to those found. They start at s or later, if the last found ends there or later, or the longest key does not reach back so far.
+    pub standard-late : ((u : ℕ) → 1 ≤ width u) → (read d : List ℕ) (done : List (Match V)) → standard width K read ≡ done → (s ≤ last_end 0 done) ⊎ (s + longest ≤ size width read)
+        → (ms : List (Match V)) × (standard width K (read ++ d) ≡ done ++ ms) × Follows s ms
+    standard-late wide read d done is behind =
+        let ends : List ℕ → List (Match V) = λ t. option_to_list (standard_after width K t) in
+        let ms : List (Match V) = after_each ends read d in
+        let all : standard width K (read ++ d) ≡ done ++ ms =
+        sym (standard-joined width K wide (read ++ d)) ∙ at_each_end-append ends [] read d ∙ ap (λ l. l ++ ms) (standard-joined width K wide read ∙ is) in
+        let after : Follows (last_end 0 done) ms = Follows-behind 0 done ms (subst (Follows 0) all (standard_apart width K (read ++ d))) in
+        (ms, all, elim behind [ inl p ↦ Follows-earlier s (last_end 0 done) ms p after | inr p ↦ Follows-from (last_end 0 done) s ms after (starts_after read d p) ])
 
   module _ (wide : (u : ℕ) → 1 ≤ width u) where
     pub standard-first : standard width K [] ≡ [] ++ option_to_list (standard_after width K [])

@@ -31,6 +31,11 @@ module _ {O : Type 0} (taken : O → Option (List ℕ)) where
     pub went : Appends (taken old) (taken new) (take n held)
     pub left : rest ≡ drop n held
 
+module _ {S U : Type 0} (steps : S → Option U → S → Type 0) (failure : S → Option Error) where
+  -- the source is at its end, which is no failure
+  abbrev pub IsAtWholeEnd : S → Type 0
+  IsAtWholeEnd s = (ended : S) × steps s None ended × (failure ended ≡ None)
+
 module _ {V P O E F : Type 0} (bytes : P → List ℕ) (taken : O → Option (List ℕ)) (step : F → Match V → P → MutBor O → Result (Unit {0}) E → MutBor O → F → Type 0) where
   -- Of the bytes held, what no later match may need went out. With no match, n of them did. With one, the bytes before it did, its call was made, and none stay.
   abbrev pub Settles : ℕ → Option (Match V) → List ℕ → F → O → List ℕ → F → O → Type 0
@@ -40,9 +45,9 @@ module _ {V P O E F : Type 0} (bytes : P → List ℕ) (taken : O → Option (Li
       (at : O) × Appends (taken old) (taken at) (take (before_match held m) held) × MayWriteFor bytes step f m (drop (before_match held m) held) at (Ok tt) new g × (rest ≡ [])
 
   -- the same up to a refusal: of the output, or of the call
-  abbrev pub SettlesSoFar : Option (Match V) → List ℕ → F → O → O → Type 0
-  SettlesSoFar None held f old new = AppendsBeginning (taken old) (taken new) held
-  SettlesSoFar (Some m) held f old new =
+  abbrev pub SettlesSoFar : ℕ → Option (Match V) → List ℕ → F → O → O → Type 0
+  SettlesSoFar longest None held f old new = (n : ℕ) × (n + longest ≤ length held) × AppendsBeginning (taken old) (taken new) (take n held)
+  SettlesSoFar longest (Some m) held f old new =
       AppendsBeginning (taken old) (taken new) (take (before_match held m) held)
       ⊎ ((at : O) × (e : E) × (g : F) × Appends (taken old) (taken at) (take (before_match held m) held) × MayWriteFor bytes step f m (drop (before_match held m) held) at (Err e) new g)
 
@@ -69,12 +74,16 @@ module _ {V P O E F : Type 0} (bytes : P → List ℕ) (taken : O → Option (Li
       pub whole : failure ended ≡ None
       pub replaced : IsReplaced bytes taken (flat_map form units) step (matches (map unit units)) f old new
 
-    -- the source gave these units, and their bytes went to the output up to a refusal
+    -- the bytes of these units went to the output up to a refusal
+    abbrev pub IsStreamedUpTo : List U → F → O → O → Type 0
+    IsStreamedUpTo units f old new = IsReplacedSoFar bytes taken (flat_map form units) step (matches (map unit units)) f old new
+
+    -- The source gave these units, and what went out is right however it goes on. At its end, it is right for just these.
     pub record IsStreamedSoFar (s : S) (f : F) (old new : O) : Type 0 where
       pub units : List U
       pub last : S
       pub took : Yields steps s units last
-      pub replaced : IsReplacedSoFar bytes taken (flat_map form units) step (matches (map unit units)) f old new
+      pub replaced : ((more : List U) → IsStreamedUpTo (units ++ more) f old new) ⊎ (IsAtWholeEnd steps failure last × IsStreamedUpTo units f old new)
 
   module _ (is_unit : ℕ → Type 0) (spelled : List ℕ → List ℕ) (known : Option (List ℕ)) (matches : List ℕ → List (Match V)) where
     -- units whose bytes are all that a reader had left, where that is known, went to the output with each match replaced
@@ -84,12 +93,16 @@ module _ {V P O E F : Type 0} (bytes : P → List ℕ) (taken : O → Option (Li
       pub all : IfSome known (λ left. left ≡ spelled units)
       pub replaced : IsReplaced bytes taken (spelled units) step (matches units) f old new
 
-    -- units whose bytes are a beginning of that did so, up to a refusal
+    -- the bytes of these units went to the output up to a refusal
+    abbrev pub IsReadUpTo : List ℕ → F → O → O → Type 0
+    IsReadUpTo units f old new = IsReplacedSoFar bytes taken (spelled units) step (matches units) f old new
+
+    -- The bytes of these units are a beginning of that, and what went out is right however the reader goes on. At its end, it is right for just these.
     pub record IsReadReplacedSoFar (f : F) (old new : O) : Type 0 where
       pub units : List ℕ
       pub are : All is_unit units
       pub begins : IfSome known (λ left. (rest : List ℕ) × (left ≡ spelled units ++ rest))
-      pub replaced : IsReplacedSoFar bytes taken (spelled units) step (matches units) f old new
+      pub replaced : ((more : List ℕ) → IsReadUpTo (units ++ more) f old new) ⊎ (IfSome known (λ left. left ≡ spelled units) × IsReadUpTo units f old new)
 
     -- what a reader gives is replaced: all of it, or what came before a refusal
     abbrev pub ReplacesRead : {T X : Type 0} → Result T X → F → O → O → Type 0

@@ -1,6 +1,6 @@
 //! The loop that replaces the matches in what a source gives.
 
-ghost use Rattle.std.specs.Prelude.{◌≡◌, ℕ, ◌+◌, ◌≤◌, [], IfOk, IfSome, OnErr, OnOk, drop, length, take, None};
+ghost use Rattle.std.specs.Prelude.{◌≡◌, ◌⊎◌, ℕ, ◌+◌, ◌≤◌, [], IfOk, IfSome, OnErr, OnOk, drop, length, take, None};
 ghost use Rattle.std.specs.Io.KnownBytes.{Appends};
 ghost use Rattle.daachorse_model.specs.Folding.{as_read};
 ghost use Rattle.daachorse_model.specs.Matches.{standard};
@@ -92,7 +92,7 @@ fn settle<V: Copy, O: Write, F: FnMut(Match<V>, &[u8], &mut O) -> io::Result<()>
     requires callable { F.IsAlwaysCallable write.old }
     ensures whole { OnOk result (Settles (λ s. s.now) O.contents F.step longest found held.old.items write.old out.old held.new.items write.new out.new) }
     ensures callable { OnOk result (F.IsAlwaysCallable write.new) }
-    ensures beginning { OnErr result (SettlesSoFar (λ s. s.now) O.contents F.step found held.old.items write.old out.old out.new) }
+    ensures beginning { OnErr result (SettlesSoFar (λ s. s.now) O.contents F.step longest found held.old.items write.old out.old out.new) }
 {
     let Some(found) = found else {
         put_out_settled(longest, held, out)?;
@@ -154,7 +154,7 @@ fn finish<U: AsciiFold, S: ReadSource<U>, O: Write>(
     out: &mut O,
 ) -> io::Result<()>
     ensures whole { OnOk result ((S.failure source ≡ None) × Appends (O.contents out.old) (O.contents out.new) held.now) }
-    ensures beginning { OnErr result (AppendsBeginning (O.contents out.old) (O.contents out.new) held.now) }
+    ensures beginning { OnErr result ((out.new ≡ out.old) ⊎ ((S.failure source ≡ None) × AppendsBeginning (O.contents out.old) (O.contents out.new) held.now)) }
 {
     match source.into_failure() {
         Some(error) => Err(error),

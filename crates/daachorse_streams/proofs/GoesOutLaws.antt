@@ -8,7 +8,6 @@ use Rattle.daachorse_model.specs.declared.Match.{Match}
 use Rattle.daachorse_model.specs.Dictionary.{Dictionary}
 use Rattle.daachorse_model.specs.Laws.{Follows, IsOccurrence}
 use Rattle.daachorse_model.specs.Leftmost.{leftmost}
-use Rattle.daachorse_model.specs.Matches.{last_end}
 use Rattle.daachorse_model.specs.Units.{size}
 use Rattle.daachorse_model.proofs.Find.{leftmost_occur}
 use Rattle.daachorse_model.proofs.Suffixes.{size-append}
@@ -16,13 +15,8 @@ use Rattle.daachorse_replacing.specs.Replaced.{AppendsBeginning}
 use Rattle.daachorse_replacing.specs.ReplacedWith.{IsReplacedSoFar, MayWriteFor}
 use Rattle.daachorse_replacing.specs.Streams.{IsHeld}
 use Rattle.daachorse_replacing.proofs.HeldLaws.{held-behind, unheld-at, unheld-before}
-use Rattle.daachorse_replacing.proofs.StandardMatches.{last_end-push}
+use Rattle.daachorse_replacing.proofs.StandardMatches.{Follows-behind, last_end-push}
 use Rattle.daachorse_streams.specs.Replacing.{GoesOut, GoesOutSoFar}
-
--- matches behind others follow the last of them
-pub Follows-behind : {V : Type 0} (s : ℕ) (before ms : List (Match V)) → Follows s (before ++ ms) → Follows (last_end s before) ms
-Follows-behind s [] ms follows = follows
-Follows-behind s (m ∷ before) ms follows = Follows-behind m.end before ms follows.2
 
 one_of : {A : Type 0} (Q : A → Type 0) (before : List A) (x : A) (after : List A) → All Q (before ++ x ∷ after) → Q x
 one_of Q [] x after all = All-head Q x after all
@@ -47,12 +41,13 @@ module _ {V P O E F : Type 0} {bytes : P → List ℕ} {taken : O → Option (Li
   out-nothing done place held f old = record { more = []; gives = sym (append-nil done); ends = refl; holds = λ first start text h. h }
 
   module _ {done given : List (Match V)} {start place : ℕ} {first held : List ℕ} {f g : F} {old out : O} (h : GoesOut bytes taken step done given start first f old place held g out) where
-    pub out-next : (width : ℕ → ℕ) (K : Dictionary V) (read : List ℕ) (m : Match V) (rest : List (Match V)) → ((ms : List (Match V)) → leftmost width K read ≡ done ++ ms → Follows start ms)
-        → place + length held ≡ size width read → leftmost width K read ≡ given ++ m ∷ rest → IsNext place held m rest
-    out-next width K read m rest behind count is =
-        let all = is ∙ ap (λ l. l ++ m ∷ rest) h.gives ∙ append_assoc done h.more (m ∷ rest) in
+    pub out-next : (width : ℕ → ℕ) (K : Dictionary V) (read : List ℕ) (m : Match V) (rest : List (Match V)) → ((d : List ℕ) (ms : List (Match V)) → leftmost width K (read ++ d) ≡ done ++ ms → Follows start ms)
+        → place + length held ≡ size width read → leftmost width K read ≡ given ++ m ∷ rest
+        → (d : List ℕ) (later : List (Match V)) → leftmost width K (read ++ d) ≡ given ++ m ∷ later → IsNext place held m later
+    out-next width K read m rest behind count is d later goes_on =
+        let all = goes_on ∙ ap (λ l. l ++ m ∷ later) h.gives ∙ append_assoc done h.more (m ∷ later) in
         record {
-          after = subst (λ n. Follows n (m ∷ rest)) (sym h.ends) (Follows-behind start h.more (m ∷ rest) (behind (h.more ++ m ∷ rest) all));
+          after = subst (λ n. Follows n (m ∷ later)) (sym h.ends) (Follows-behind start h.more (m ∷ later) (behind d (h.more ++ m ∷ later) all));
           inner = omega (arith, count, ends_within width K read given rest m is);
         }
 
@@ -73,13 +68,13 @@ module _ {V P O E F : Type 0} {bytes : P → List ℕ} {taken : O → Option (Li
       module _ (all : List (Match V)) (is : all ≡ given ++ m ∷ rest) where
         -- the output took a beginning of the bytes before it
         pub out-before : (new : O) → AppendsBeginning (taken out) (taken new) (take (m.start - place) held) → GoesOutSoFar bytes taken step all done start first f old new
-        out-before new part x y text was =
-            let A : List (Match V) → Type 0 = λ l. IsReplacedSoFar bytes taken text step l x y new in
-            subst A (sym is) (unheld-before bytes taken step x y (h.holds x y text was) m rest next.after next.inner new part)
+        out-before new part x y text was more =
+            let A : List (Match V) → Type 0 = λ l. IsReplacedSoFar bytes taken (text ++ more) step l x y new in
+            subst A (sym is) (unheld-before bytes taken step x y (h.holds x y text was) m rest next.after next.inner new part more)
 
         -- the call for it returned an error
         pub out-at : (at new : O) (e : E) (then : F) → Appends (taken out) (taken at) (take (m.start - place) held) → MayWriteFor bytes step g m (slice_range held (m.start - place) (m.end - place)) at (Err e) new then
             → GoesOutSoFar bytes taken step all done start first f old new
-        out-at at new e then went call x y text was =
-            let A : List (Match V) → Type 0 = λ l. IsReplacedSoFar bytes taken text step l x y new in
-            subst A (sym is) (unheld-at bytes taken step x y (h.holds x y text was) m rest next.after next.inner at new e then went call)
+        out-at at new e then went call x y text was more =
+            let A : List (Match V) → Type 0 = λ l. IsReplacedSoFar bytes taken (text ++ more) step l x y new in
+            subst A (sym is) (unheld-at bytes taken step x y (h.holds x y text was) m rest next.after next.inner at new e then went call more)

@@ -2,7 +2,7 @@
 use Rattle.std.proofs.Common.{◌≡◌, ℕ, zero, suc, ◌+◌, ◌-◌, ◌<◌, ◌≤◌, inl, inr, Bool, true, false, List, [], ◌∷◌, ◌++◌, Option, Some, None, refl, sym, ap, ◌∙◌, subst, append_assoc, append-nil, arith}
 use Rattle.std.proofs.lemmas.List.{append_cancel_left}
 use Rattle.std.specs.Option.{option_or}
-use Rattle.std.specs.Prelude.{⊤, option_map, slice_get}
+use Rattle.std.specs.Prelude.{option_map, slice_get}
 use Rattle.daachorse_model.specs.declared.Match.{Match}
 use Rattle.daachorse_model.specs.Certain.{AreCertain}
 use Rattle.daachorse_model.specs.Dictionary.{Dictionary}
@@ -13,20 +13,12 @@ use Rattle.daachorse_model.proofs.Lists.{nil_of}
 use Rattle.daachorse_model.proofs.Overlap.{Follows-earlier, leftmost_apart}
 use Rattle.daachorse_model.proofs.Suffixes.{le_or_lt, size-push}
 use Rattle.daachorse_replacing.specs.Streams.{HasNoLonger}
+use Rattle.daachorse_replacing.proofs.StandardMatches.{Follows-from, StartsFrom}
 
 module _ {V : Type 0} where
-  -- the first match, if there is one, starts at s or later
-  abbrev StartsFrom : ℕ → List (Match V) → Type 0
-  StartsFrom s [] = ⊤
-  StartsFrom s (m ∷ ms) = s ≤ m.start
-
   starts_earlier : (r s : ℕ) (ms : List (Match V)) → r ≤ s → StartsFrom s ms → StartsFrom r ms
   starts_earlier r s [] le from = tt
   starts_earlier r s (m ∷ ms) le from = omega (arith, le, from)
-
-  Follows-from : (r s : ℕ) (ms : List (Match V)) → Follows r ms → StartsFrom s ms → Follows s ms
-  Follows-from r s [] follows from = tt
-  Follows-from r s (m ∷ ms) follows from = (from, follows.1, follows.2)
 
   -- matches behind others
   Follows-back : (r : ℕ) (before ms : List (Match V)) → Follows r (before ++ ms) → Follows r ms

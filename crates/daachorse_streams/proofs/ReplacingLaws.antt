@@ -1,6 +1,5 @@
 -- The loop over a source: what it took so far is what its stream read, and went out but for what is held, where no match that is to come starts before it.
 use Rattle.std.proofs.Common.{◌≡◌, ℕ, ◌+◌, ◌-◌, ◌<◌, ◌≤◌, ◌^◌, inl, inr, Bool, List, [], ◌++◌, length, map, take, Option, None, Result, refl, sym, ap, ◌∙◌, subst, append_assoc, append-nil, length-append, arith}
-use Rattle.std.proofs.lemmas.List.{take_all}
 use Rattle.std.specs.Prelude.{flat_map}
 use Rattle.std.proofs.lemmas.Grind.{flat_map-append}
 use Rattle.std.proofs.lemmas.List.{map-append}
@@ -22,13 +21,13 @@ use Rattle.daachorse_haystack.specs.ByteSources.{Yields_append}
 use Rattle.daachorse_haystack.specs.Sources.{IsReady}
 use Rattle.daachorse_replacing.specs.Replaced.{AppendsBeginning}
 use Rattle.daachorse_replacing.specs.ReplacedWith.{IsReplaced, IsReplacedSoFar}
-use Rattle.daachorse_replacing.specs.Streams.{GoesOutSettled, HasNoLonger, IsHeld, IsStreamed, IsStreamedSoFar}
-use Rattle.daachorse_replacing.proofs.HeldLaws.{held-count, held-first, held-more, held-past, held-whole, unheld-within}
+use Rattle.daachorse_replacing.specs.Streams.{GoesOutSettled, HasNoLonger, IsAtWholeEnd, IsHeld, IsStreamed, IsStreamedSoFar}
+use Rattle.daachorse_replacing.proofs.HeldLaws.{held-count, held-first, held-more, held-past, held-whole, unheld-whole, unheld-within}
 use Rattle.daachorse_replacing.proofs.LeadsOn.{AppendsBeginning-nothing, so_far_nothing}
 use Rattle.daachorse_replacing.proofs.GaveUnitsLaws.{GaveUnits, gave-first}
 use Rattle.daachorse_streams.specs.Replacing.{GoesOut, GoesOutSoFar}
 use Rattle.daachorse_streams.proofs.LateMatches.{late_matches}
-use Rattle.daachorse_streams.proofs.GoesOutLaws.{Follows-behind}
+use Rattle.daachorse_replacing.proofs.StandardMatches.{Follows-behind}
 
 module _ {V P O F S U : Type 0} (bytes : P → List ℕ) (taken : O → Option (List ℕ)) (step : F → Match V → P → MutBor O → Result (Unit {0}) Error → MutBor O → F → Type 0) (first : F) (old : O)
     (can : S → Type 0) (steps : S → Option U → S → Type 0) (left : S → Count) (failure : S → Option Error) (unit : U → ℕ) (form : U → List ℕ) (width : ℕ → ℕ)
@@ -49,7 +48,7 @@ module _ {V P O F S U : Type 0} (bytes : P → List ℕ) (taken : O → Option (
 
   -- nothing was taken yet
   pub streams-nothing : SoFar old
-  streams-nothing = record { units = []; last = source; took = refl; replaced = so_far_nothing bytes taken step first old [] 0 (leftmost width K (as_read folds [])) }
+  streams-nothing = record { units = []; last = source; took = refl; replaced = inl (λ more. so_far_nothing bytes taken step first old (flat_map form more) 0 (leftmost width K (as_read folds (map unit more)))) }
 
   pub goes-first : IsReady can steps left unit width source 0 → (read : List ℕ) (given : List (Match V)) (held : List ℕ) → read ≡ [] → given ≡ [] → held ≡ [] → Goes read given source 0 held first old
   goes-first ready read given held none no_match empty =
@@ -74,15 +73,28 @@ module _ {V P O F S U : Type 0} {bytes : P → List ℕ} {taken : O → Option (
   pub goes-count : place + length held ≡ size width read
   goes-count = held-count bytes taken step first old h.is ∙ h.sized
 
-  pub goes-behind : (rest : List (Match V)) → leftmost width K read ≡ given ++ rest → Follows place rest
-  goes-behind rest is = h.behind [] rest (ap (leftmost width K) (append-nil read) ∙ is)
-
-  stopped : (new : O) → IsReplacedSoFar bytes taken (flat_map form h.units) step (leftmost width K read) first old new → StopsAt new
+  -- what went out is right however the source goes on
+  stopped : (new : O) → ((more d : List ℕ) → IsReplacedSoFar bytes taken (flat_map form h.units ++ more) step (leftmost width K (read ++ d)) first old new) → StopsAt new
   stopped new replaced = record {
     units = h.units;
     last = s;
     took = h.gave.took;
-    replaced = let R : List ℕ → Type 0 = λ l. IsReplacedSoFar bytes taken (flat_map form h.units) step (leftmost width K l) first old new in subst R h.gave.is replaced;
+    replaced = inl (λ more. (
+        let d : List ℕ = as_read folds (map unit more) in
+        let R : List ℕ → List ℕ → Type 0 = λ text l. IsReplacedSoFar bytes taken text step (leftmost width K l) first old new in
+        let units : read ++ d ≡ as_read folds (map unit (h.units ++ more)) =
+        ap (λ l. l ++ d) h.gave.is ∙ sym (as_read-append folds (map unit h.units) (map unit more)) ∙ ap (as_read folds) (sym (map-append unit h.units more)) in
+        subst (λ l. R (flat_map form (h.units ++ more)) l) units (subst (λ text. R text (read ++ d)) (sym (flat_map-append form h.units more)) (replaced (flat_map form more) d))
+        ));
+  }
+
+  -- the source came to its end, and what went out is right for what it gave
+  stopped-at-end : IsAtWholeEnd steps failure s → (new : O) → IsReplacedSoFar bytes taken (flat_map form h.units) step (leftmost width K read) first old new → StopsAt new
+  stopped-at-end ends new replaced = record {
+    units = h.units;
+    last = s;
+    took = h.gave.took;
+    replaced = let R : List ℕ → Type 0 = λ l. IsReplacedSoFar bytes taken (flat_map form h.units) step (leftmost width K l) first old new in inr (ends, subst R h.gave.is replaced);
   }
 
   was_held : (done : List (Match V)) → done ≡ given → IsHeld bytes taken step first old (flat_map form h.units) done place held f out
@@ -109,26 +121,34 @@ module _ {V P O F S U : Type 0} {bytes : P → List ℕ} {taken : O → Option (
   }
 
   -- or did so up to a refusal
-  pub stops-out : (done all : List (Match V)) (new : O) → done ≡ given → all ≡ leftmost width K read → GoesOutSoFar bytes taken step all done place held f out new → StopsAt new
-  stops-out done all new same is went =
-      let P : List (Match V) → Type 0 = λ l. IsReplacedSoFar bytes taken (flat_map form h.units) step l first old new in
-      stopped new (subst P is (went first old (flat_map form h.units) (was_held done same)))
+  pub stops-out : (all : List ℕ → List (Match V)) (new : O) → ((d : List ℕ) → all d ≡ leftmost width K (read ++ d)) → ((d : List ℕ) → GoesOutSoFar bytes taken step (all d) given place held f out new) → StopsAt new
+  stops-out all new is went = stopped new (λ more d. (
+      let P : List (Match V) → Type 0 = λ l. IsReplacedSoFar bytes taken (flat_map form h.units ++ more) step l first old new in
+      subst P (is d) (went d first old (flat_map form h.units) h.is more)
+      ))
 
-  -- the output took a beginning of the next n bytes, before any match that is to come
-  stops-before : (n : ℕ) (new : O) (rest : List (Match V)) → leftmost width K read ≡ given ++ rest → Follows (place + n) rest → AppendsBeginning (taken out) (taken new) (take n held) → StopsAt new
-  stops-before n new rest is after part =
-      let P : List (Match V) → Type 0 = λ l. IsReplacedSoFar bytes taken (flat_map form h.units) step l first old new in
-      stopped new (subst P (sym is) (unheld-within bytes taken step first old h.is n rest after new part))
+  -- or after the source came to its end
+  pub stops-out-at-end : IsAtWholeEnd steps failure s → (done all : List (Match V)) (new : O) → done ≡ given → all ≡ leftmost width K read → GoesOutSoFar bytes taken step all done place held f out new → StopsAt new
+  stops-out-at-end ends done all new same is went =
+      let text = flat_map form h.units in
+      let P : List (Match V) → Type 0 = λ l. IsReplacedSoFar bytes taken text step l first old new in
+      let T : List ℕ → Type 0 = λ l. IsReplacedSoFar bytes taken l step all first old new in
+      stopped-at-end ends new (subst P is (subst T (append-nil text) (went first old text (was_held done same) [])))
 
-  -- the matches that are left, where some are certain
-  is_left : BeginEach width K read given → (rest : List (Match V)) × (leftmost width K read ≡ given ++ rest)
-  is_left begins = let all = begins [] in (all.0, ap (leftmost width K) (sym (append-nil read)) ∙ all.1)
+  -- The output took a beginning of the next n bytes, before any match that is to come. Those before are certain.
+  stops-before : (n : ℕ) (new : O) → n ≤ length held → BeginEach width K read given → ((d : List ℕ) (rest : List (Match V)) → leftmost width K (read ++ d) ≡ given ++ rest → Follows (place + n) rest)
+      → AppendsBeginning (taken out) (taken new) (take n held) → StopsAt new
+  stops-before n new inner begins after part = stopped new (λ more d. (
+      let P : List (Match V) → Type 0 = λ l. IsReplacedSoFar bytes taken (flat_map form h.units ++ more) step l first old new in
+      let rest = begins d in
+      subst P (sym rest.1) (unheld-within bytes taken step first old h.is n inner rest.0 (after d rest.0 rest.1) new part more)
+      ))
 
   -- nothing more went out
   pub stops-here : BeginEach width K read given → StopsAt out
   stops-here begins =
-      let rest = is_left begins in
-      stops-before 0 out rest.0 rest.1 (subst (λ n. Follows n rest.0) (let same : place ≡ place + 0 = omega arith in same) (goes-behind rest.0 rest.1)) (AppendsBeginning-nothing (taken out) (take 0 held))
+      let same : place ≡ place + 0 = omega arith in
+      stops-before 0 out (omega arith) begins (λ d rest is. subst (λ n. Follows n rest) same (h.behind d rest is)) (AppendsBeginning-nothing (taken out) (take 0 held))
 
   module _ (wide : (u : ℕ) → 1 ≤ width u) {longest : ℕ} (bound : HasNoLonger width K longest) (certain : AreCertain width K read given) where
     -- no match that is to come starts in the bytes before the last `longest`
@@ -153,9 +173,7 @@ module _ {V P O F S U : Type 0} {bytes : P → List ℕ} {taken : O → Option (
 
     -- or a beginning of them
     pub stops-settled : (new : O) → (n : ℕ) × (n + longest ≤ length held) × AppendsBeginning (taken out) (taken new) (take n held) → StopsAt new
-    stops-settled new (n, many, part) =
-        let rest = is_left certain.0 in
-        stops-before n new rest.0 rest.1 (late n many [] rest.0 (ap (leftmost width K) (append-nil read) ∙ rest.1)) part
+    stops-settled new (n, many, part) = stops-before n new (omega (arith, many)) certain.0 (late n many) part
 
   module _ (as_wide : (u : ℕ) → width (folded_unit u) ≡ width u) where
     -- the places of the bytes held fit
@@ -212,6 +230,7 @@ module _ {V P O F S U : Type 0} {bytes : P → List ℕ} {taken : O → Option (
     }
 
     -- or a beginning of it
-    pub stops-at-end : (last : O) → AppendsBeginning (taken out) (taken last) held → StopsAt last
-    stops-at-end last part =
-        stops-before (length held) last [] (sym all ∙ sym (append-nil given)) tt (subst (AppendsBeginning (taken out) (taken last)) (sym (take_all (length held) held (omega arith))) part)
+    pub stops-at-end : IsAtWholeEnd steps failure s → (last : O) → AppendsBeginning (taken out) (taken last) held → StopsAt last
+    stops-at-end ends last part =
+        let R : List (Match V) → Type 0 = λ ms. IsReplacedSoFar bytes taken (flat_map form h.units) step ms first old last in
+        stopped-at-end ends last (subst R all (unheld-whole bytes taken step first old h.is last part))

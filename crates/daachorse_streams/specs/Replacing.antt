@@ -14,7 +14,8 @@ module _ {V P O E F : Type 0} (bytes : P → List ℕ) (taken : O → Option (Li
     pub ends : next ≡ last_end place more
     pub holds : (first : F) (start : O) (text : List ℕ) → IsHeld bytes taken step first start text done place held f old → IsHeld bytes taken step first start text given next rest g new
 
-  -- the same up to a refusal: each such text went out so far with all these matches replaced
+  -- the same up to a refusal: however each such text goes on, it went out so far with all these matches replaced
   abbrev pub GoesOutSoFar : List (Match V) → List (Match V) → ℕ → List ℕ → F → O → O → Type 0
   GoesOutSoFar all done place held f old new =
-      (first : F) (start : O) (text : List ℕ) → IsHeld bytes taken step first start text done place held f old → IsReplacedSoFar bytes taken text step all first start new
+      (first : F) (start : O) (text : List ℕ) → IsHeld bytes taken step first start text done place held f old
+      → (more : List ℕ) → IsReplacedSoFar bytes taken (text ++ more) step all first start new

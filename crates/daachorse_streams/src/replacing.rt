@@ -1,6 +1,6 @@
 //! The loop that replaces the leftmost matches in what a source gives.
 
-ghost use Rattle.std.specs.Prelude.{◌≡◌, ◌+◌, ◌++◌, List, [], OnErr, OnOk, length};
+ghost use Rattle.std.specs.Prelude.{◌≡◌, ◌+◌, ◌++◌, ℕ, true, List, [], OnErr, OnOk, length};
 ghost use Rattle.daachorse_model.specs.Folding.{as_read};
 ghost use Rattle.daachorse_model.specs.Laws.{Follows};
 ghost use Rattle.daachorse_model.specs.Leftmost.{leftmost};
@@ -111,13 +111,14 @@ fn replace_certain<
     write: &mut F,
 ) -> io::Result<()>
     requires read { held.old.place + length held.old.bytes.items ≡ size A.Unit.width stream.old.read }
-    requires behind { (rest : List (Match V)) → leftmost A.Unit.width (A.sees stream.old.automaton).content stream.old.read ≡ stream.old.given ++ rest → Follows held.old.place rest }
+    requires behind { (d : List ℕ) (rest : List (Match V)) → leftmost A.Unit.width (A.sees stream.old.automaton).content (stream.old.read ++ d) ≡ stream.old.given ++ rest → Follows held.old.place rest }
     requires callable { F.IsAlwaysCallable write.old }
     ensures same { IsSameStream stream.old stream.new }
     ensures settled { OnOk result (IsSettled A.Unit.width (A.sees stream.new.automaton).content stream.new stream.new) }
     ensures callable { OnOk result (F.IsAlwaysCallable write.new) }
     ensures whole { OnOk result (GoesOut (λ s. s.now) O.contents F.step stream.old.given stream.new.given held.old.place held.old.bytes.items write.old out.old held.new.place held.new.bytes.items write.new out.new) }
-    ensures beginning { OnErr result (GoesOutSoFar (λ s. s.now) O.contents F.step (leftmost A.Unit.width (A.sees stream.old.automaton).content stream.old.read) stream.old.given held.old.place held.old.bytes.items write.old out.old out.new) }
+    ensures beginning { OnErr result ((d : List ℕ) → (stream.old.ended ≡ true → d ≡ [])
+        → GoesOutSoFar (λ s. s.now) O.contents F.step (leftmost A.Unit.width (A.sees stream.old.automaton).content (stream.old.read ++ d)) stream.old.given held.old.place held.old.bytes.items write.old out.old out.new) }
 {
     'matches: while let Some(found) = stream.next_certain() {
         let start = found.start - held.place;

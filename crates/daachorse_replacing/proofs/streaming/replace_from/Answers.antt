@@ -6,9 +6,7 @@ use Rattle.daachorse_model.specs.declared.Match.{Match}
 use Rattle.daachorse_model.specs.Folding.{as_read}
 use Rattle.daachorse_model.specs.Matches.{standard_after}
 use Rattle.daachorse_search.specs.Views.{AutomatonView}
-use Rattle.daachorse_replacing.specs.Replaced.{AppendsBeginning}
-use Rattle.daachorse_replacing.proofs.GoesLaws.{goes-first, goes-fits, goes-more, goes-to-end, goes-within, stops-settled, stops-settling, streams-nothing}
-use Rattle.daachorse_replacing.proofs.LeadsOn.{AppendsBeginning-nothing}
+use Rattle.daachorse_replacing.proofs.GoesLaws.{goes-first, goes-fits, goes-more, goes-to-end, goes-within, stops-finishing, stops-settled, stops-settling, streams-nothing}
 use Rattle.daachorse_replacing.proofs.streaming.replace_from.Goals as goal
 
 -- the automaton is that of the start
@@ -61,15 +59,15 @@ returns-in_default-clause-whole g c =
 pub returns-in_default-clause-beginning : goal.returns-in_default-clause-beginning
 returns-in_default-clause-beginning g c =
     let was = c.units.invariant in
-    on_err_weaker c.finish.result (λ out. stops-settled g.met.A.Unit.EdgeLabel.wide g.met.A.Unit.AsciiFold.as_wide c.requires.longest was.goes c.matches.result
-    (as_started g.A.Automaton.sees g.A.Unit.EdgeLabel.width c.units.stepper.read was.automaton c.matches.ensures) _ _ _ c.in_ok-settle.ensures.whole _ (subst (AppendsBeginning _ _) c.deref.ensures.value out)) c.finish.ensures.beginning
+    on_err_weaker c.finish.result (λ out. stops-finishing g.met.A.Unit.EdgeLabel.wide g.met.A.Unit.AsciiFold.as_wide c.requires.longest was.goes c.matches.result
+    (as_started g.A.Automaton.sees g.A.Unit.EdgeLabel.width c.units.stepper.read was.automaton c.matches.ensures) _ _ _ c.in_ok-settle.ensures.whole _ _ _ c.deref.ensures.value c.in_default.ensures.steps out) c.finish.ensures.beginning
 
 pub returns-in_err-append_to-clause-beginning : goal.returns-in_err-append_to-clause-beginning
 returns-in_err-append_to-clause-beginning g c =
     let p = err_from_is_err_and c.from_residual-in_err-append_to.result c.from_residual-in_err-append_to.ensures.1 in
     let was = c.units.invariant in
     rw p.1 (stops-settled g.met.A.Unit.EdgeLabel.wide g.met.A.Unit.AsciiFold.as_wide c.requires.longest was.goes c.matches.result
-    (as_started g.A.Automaton.sees g.A.Unit.EdgeLabel.width c.units.stepper.read was.automaton c.matches.ensures) _ _ _ c.in_ok-settle.ensures.whole _ (AppendsBeginning-nothing _ _))
+    (as_started g.A.Automaton.sees g.A.Unit.EdgeLabel.width c.units.stepper.read was.automaton c.matches.ensures) _ _ _ c.in_ok-settle.ensures.whole)
 
 pub consume-requires : goal.consume-requires
 consume-requires g c =

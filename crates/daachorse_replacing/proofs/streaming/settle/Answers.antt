@@ -3,14 +3,13 @@ use Rattle.std.proofs.Common.{◌≡◌, ℕ, ◌-◌, inr, take, drop, refl, ap
 use Rattle.std.proofs.lemmas.Result.{err_from_is_err_and}
 use Rattle.std.specs.Io.KnownBytes.{Appends}
 use Rattle.daachorse_replacing.specs.Streams.{before_match}
-use Rattle.daachorse_replacing.proofs.LeadsOn.{AppendsBeginning-take}
 use Rattle.daachorse_replacing.proofs.streaming.settle.Goals as goal
 
 pub returns-in_err-put_out_settled-clause-beginning : goal.returns-in_err-put_out_settled-clause-beginning
 returns-in_err-put_out_settled-clause-beginning g c =
     let p = err_from_is_err_and c.from_residual.result c.from_residual.ensures.1 in
     let went = c.in_err-put_out_settled.ensures.beginning in
-    rw p.1 (rw c.in_default.is (AppendsBeginning-take _ _ _ _ went.2))
+    rw p.1 (rw c.in_default.is went)
 
 pub returns-in_err-write-clause-beginning : goal.returns-in_err-write-clause-beginning
 returns-in_err-write-clause-beginning g c =

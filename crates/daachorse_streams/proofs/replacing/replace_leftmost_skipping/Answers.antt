@@ -1,5 +1,6 @@
 -- Each round puts out what is certain and what is settled, and takes one unit more. At the end of the source all matches are certain.
-use Rattle.std.proofs.Common.{◌≡◌, ◌+◌, ◌++◌, [], ℕ, Bool, true, false, List, None, map, Bor, refl, ap, sym, ◌∙◌, subst, arith}
+use Rattle.std.proofs.Common.{◌≡◌, ◌+◌, ◌++◌, [], ℕ, Bool, true, false, List, None, map, Bor, refl, ap, sym, ◌∙◌, subst, append-nil, arith}
+use Rattle.std.proofs.lemmas.Bool.{false≢true}
 use Rattle.std.proofs.lemmas.Result.{err_from_is_err_and, on_err_weaker, on_ok_weaker}
 use Rattle.std.specs.Io.KnownBytes.{Appends}
 use Rattle.std.specs.declared.vec.Vec.{Vec}
@@ -16,7 +17,7 @@ use Rattle.daachorse_replacing.specs.Replaced.{AppendsBeginning}
 use Rattle.daachorse_streams.specs.Advancing.{Advances, TakesUnits}
 use Rattle.daachorse_streams.specs.Streamed.{IsSameStream, LeftmostStreamed}
 use Rattle.daachorse_streams.proofs.ReadingLaws.{ready_as_it_is}
-use Rattle.daachorse_streams.proofs.ReplacingLaws.{Goes, goes-behind, goes-count, goes-first, goes-inside, goes-more, goes-out, goes-same, goes-settled, goes-to-end, stops-at-end, stops-here, stops-out, stops-settled, streams-nothing}
+use Rattle.daachorse_streams.proofs.ReplacingLaws.{Goes, goes-count, goes-first, goes-inside, goes-more, goes-out, goes-same, goes-settled, goes-to-end, stops-at-end, stops-here, stops-out, stops-out-at-end, stops-settled, streams-nothing}
 use Rattle.daachorse_streams.proofs.replacing.replace_leftmost_skipping.Given as given
 use Rattle.daachorse_streams.proofs.replacing.replace_leftmost_skipping.Goals as goal
 use Rattle.daachorse_streams.proofs.replacing.replace_leftmost_skipping.Goals.{In_ok-held, In_ok-behind}
@@ -93,7 +94,7 @@ replace_certain-requires-clause-read g c = goes-count c.units.invariant.goes
 pub replace_certain-requires-clause-behind : goal.replace_certain-requires-clause-behind
 replace_certain-requires-clause-behind g c =
     let was = c.units.invariant in
-    λ rest is. goes-behind was.goes rest (sym (as_started g.A.Automaton.sees g.A.Unit.EdgeLabel.width {after = c.units.stream.read} was.automaton refl) ∙ is)
+    λ d rest is. was.goes.behind d rest (sym (as_started g.A.Automaton.sees g.A.Unit.EdgeLabel.width {after = c.units.stream.read ++ d} was.automaton refl) ∙ is)
 
 pub replace_certain-requires-clause-callable : goal.replace_certain-requires-clause-callable
 replace_certain-requires-clause-callable g c = c.units.invariant.callable
@@ -102,7 +103,8 @@ pub returns-in_err-replace_certain-clause-beginning : goal.returns-in_err-replac
 returns-in_err-replace_certain-clause-beginning g c =
     let p = err_from_is_err_and c.from_residual-in_err-replace_certain.result c.from_residual-in_err-replace_certain.ensures.1 in
     let was = c.units.invariant in
-    rw p.1 (stops-out was.goes _ _ _ refl (as_started g.A.Automaton.sees g.A.Unit.EdgeLabel.width {after = c.units.stream.read} was.automaton refl) c.in_err-replace_certain.ensures.beginning)
+    rw p.1 (stops-out was.goes _ _ (λ d. as_started g.A.Automaton.sees g.A.Unit.EdgeLabel.width {after = c.units.stream.read ++ d} was.automaton refl)
+    (λ d. c.in_err-replace_certain.ensures.beginning d (λ ended. absurd (false≢true (sym was.may.0 ∙ ended)))))
 
 pub returns-in_err-held-clause-beginning : goal.returns-in_err-held-clause-beginning
 returns-in_err-held-clause-beginning g c =
@@ -144,8 +146,8 @@ pub replace_certain-requires-then-not-some-clause-behind : goal.replace_certain-
 replace_certain-requires-then-not-some-clause-behind g c =
     let at = goal.at.replace_certain-requires-then-not-some-clause-behind g c in let was = ends g at.In_ok-behind c.if-not-some.true in let stood = goes-same (settled g at.In_ok-held).goes _ _ was.given was.held in
     let same = was.same in
-    let all = as_started g.A.Automaton.sees g.A.Unit.EdgeLabel.width (c.end.ensures.automaton ∙ same.0 ∙ c.units.invariant.automaton) (c.end.ensures.read ∙ same.2) in
-    λ rest is. goes-behind stood rest (sym all ∙ is ∙ ap (λ l. l ++ rest) c.end.ensures.given)
+    let all : (d : List ℕ) → _ = λ d. as_started g.A.Automaton.sees g.A.Unit.EdgeLabel.width (c.end.ensures.automaton ∙ same.0 ∙ c.units.invariant.automaton) (ap (λ l. l ++ d) (c.end.ensures.read ∙ same.2)) in
+    λ d rest is. stood.behind d rest (sym (all d) ∙ is ∙ ap (λ l. l ++ rest) c.end.ensures.given)
 
 pub replace_certain-requires-then-not-some-clause-callable : goal.replace_certain-requires-then-not-some-clause-callable
 replace_certain-requires-then-not-some-clause-callable g c = c.in_ok-replace_certain.ensures.callable
@@ -155,8 +157,8 @@ returns-in_err-replace_certain-2-clause-beginning g c =
     let p = err_from_is_err_and c.from_residual-in_err-replace_certain-2.result c.from_residual-in_err-replace_certain-2.ensures.1 in
     let at = goal.at.returns-in_err-replace_certain-2-clause-beginning g c in let was = ends g at.In_ok-behind c.if-not-some.true in let stood = goes-same (settled g at.In_ok-held).goes _ _ was.given was.held in
     let same = was.same in
-    let all = as_started g.A.Automaton.sees g.A.Unit.EdgeLabel.width (c.end.ensures.automaton ∙ same.0 ∙ c.units.invariant.automaton) (c.end.ensures.read ∙ same.2) in
-    rw p.1 (stops-out stood _ _ _ c.end.ensures.given all c.in_err-replace_certain-2.ensures.beginning)
+    let all = as_started g.A.Automaton.sees g.A.Unit.EdgeLabel.width (c.end.ensures.automaton ∙ same.0 ∙ c.units.invariant.automaton) (append-nil _ ∙ c.end.ensures.read ∙ same.2) in
+    rw p.1 (stops-out-at-end stood (_, was.steps, sym c.into_failure.ensures.failure ∙ c.in_default.is) _ _ _ c.end.ensures.given all (c.in_err-replace_certain-2.ensures.beginning [] (λ ended. refl)))
 
 pub returns-then-not-some-clause-whole : goal.returns-then-not-some-clause-whole
 returns-then-not-some-clause-whole g c =
@@ -174,7 +176,7 @@ returns-then-not-some-clause-beginning g c =
     let same = was.same in let last = c.in_ok-replace_certain-2.ensures in
     let all = as_started g.A.Automaton.sees g.A.Unit.EdgeLabel.width (last.same.0 ∙ c.end.ensures.automaton ∙ same.0 ∙ c.units.invariant.automaton) (last.same.2 ∙ c.end.ensures.read ∙ same.2) in
     let goes = goes-out stood c.end.ensures.given last.whole in
-    on_err_weaker c.write_whole.result (λ part. stops-at-end goes (last.settled.all (last.same.3 ∙ c.end.ensures.ended) ∙ all) _ (subst (AppendsBeginning _ _) c.deref.ensures.value part)) c.write_whole.ensures.beginning
+    on_err_weaker c.write_whole.result (λ part. stops-at-end goes (last.settled.all (last.same.3 ∙ c.end.ensures.ended) ∙ all) (_, was.steps, sym c.into_failure.ensures.failure ∙ c.in_default.is) _ (subst (AppendsBeginning _ _) c.deref.ensures.value part)) c.write_whole.ensures.beginning
 
 pub returns-in_err-behind-clause-beginning : goal.returns-in_err-behind-clause-beginning
 returns-in_err-behind-clause-beginning g c =

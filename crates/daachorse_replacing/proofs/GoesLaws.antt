@@ -1,5 +1,5 @@
 -- The loop over a source: what it took so far is what its stepper read, and went out but for what is held.
-use Rattle.std.proofs.Common.{◌≡◌, ◌⊎◌, inl, inr, ℕ, ◌+◌, ◌<◌, ◌≤◌, ◌^◌, Bool, List, [], ◌∷◌, ◌++◌, length, Option, Some, None, Result, refl, sym, ap, ◌∙◌, subst}
+use Rattle.std.proofs.Common.{◌≡◌, ◌⊎◌, inl, inr, ℕ, ◌+◌, ◌<◌, ◌≤◌, ◌^◌, Bool, List, [], ◌∷◌, ◌++◌, length, Option, Some, None, Result, refl, sym, ap, ◌∙◌, subst, arith}
 use Rattle.std.specs.Prelude.{IfSome, flat_map, map, option_to_list}
 use Rattle.std.proofs.lemmas.Grind.{flat_map-append}
 use Rattle.std.proofs.lemmas.List.{map-append}
@@ -7,6 +7,8 @@ use Rattle.std.specs.Borrow.{MutBor}
 use Rattle.std.specs.Io.KnownBytes.{Appends}
 use Rattle.std.specs.Iterator.{Count, MakesProgress}
 use Rattle.std.specs.declared.io.Error.{Error}
+use Rattle.std.specs.declared.io.ErrorKind.TheVariants.{OutOfMemory}
+use Rattle.std.specs.IoError.{error_kind}
 use Rattle.daachorse_model.specs.declared.Match.{Match}
 use Rattle.daachorse_model.specs.Dictionary.{Dictionary}
 use Rattle.daachorse_model.specs.Folding.{as_read, folded_unit}
@@ -14,11 +16,13 @@ use Rattle.daachorse_model.specs.Matches.{standard, standard_after}
 use Rattle.daachorse_model.specs.Units.{size}
 use Rattle.daachorse_model.proofs.FoldLaws.{as_read-append}
 use Rattle.daachorse_haystack.specs.Sources.{IsReady}
-use Rattle.daachorse_replacing.specs.Replaced.{AppendsBeginning}
-use Rattle.daachorse_replacing.specs.ReplacedWith.{IsReplaced, IsReplacedSoFar}
-use Rattle.daachorse_replacing.specs.Streams.{EndsWithin, HasNoLonger, IsStreamed, IsStreamedSoFar, IsStreamedUpTo, Settles, SettlesSoFar}
+use Rattle.daachorse_replacing.specs.Replaced.{AppendsPart}
+use Rattle.daachorse_replacing.specs.ReplacedWith.{IsReplaced, IsReplacedSoFar, IsStopped}
+use Rattle.daachorse_replacing.specs.Streams.{EndsWithin, FailsWith, HasNoLonger, IsStreamed, IsStreamedSoFar, Settles, SettlesSoFar}
 use Rattle.daachorse_replacing.proofs.LeadsOn.{so_far_nothing}
-use Rattle.daachorse_replacing.proofs.SentLaws.{IsSent, sent-first, sent-more, sent-settled, sent-whole, sent-within, unsent-nothing, unsent-settled, unsent-whole}
+use Rattle.daachorse_model.proofs.Find.{standard_apart}
+use Rattle.daachorse_replacing.proofs.HeldLaws.{held-back, held-first}
+use Rattle.daachorse_replacing.proofs.SentLaws.{IsSent, refused-all, refused-settled, sent-back, sent-first, sent-more, sent-settled, sent-whole, sent-within, settled-few, unsent-nothing}
 use Rattle.daachorse_replacing.proofs.StandardMatches.{standard-first, standard-more}
 use Rattle.daachorse_replacing.proofs.GaveUnitsLaws.{GaveUnits, form_more, sized_unit, gave-first, gave-fits, gave-more}
 
@@ -28,13 +32,20 @@ module _ {V P O F S U : Type 0} (bytes : P → List ℕ) (taken : O → Option (
   abbrev Sent : List ℕ → List ℕ → List (Match V) → List ℕ → F → O → Type 0
   Sent = IsSent bytes taken step first old width K longest
 
-  -- nothing was taken yet
-  pub streams-nothing : (matches : List ℕ → List (Match V)) → IsStreamedSoFar bytes taken step steps failure unit form matches source first old old
-  streams-nothing matches = record {
+  -- an allocation failed before
+  pub stops-before : (e : Error) → error_kind e ≡ OutOfMemory → IsStreamedSoFar bytes taken step steps failure unit form (λ units. standard width K (as_read folds units)) longest e source first old old
+  stops-before e memory = record {
     units = [];
     last = source;
     took = refl;
-    replaced = inl (λ more. so_far_nothing bytes taken step first old (flat_map form more) 0 (matches (map unit more)));
+    because = inl (
+      inr memory,
+      (λ more. so_far_nothing bytes taken step first old (flat_map form more) 0 (standard width K (as_read folds (map unit more)))),
+      [],
+      omega arith,
+      held-back bytes taken step first old (held-first bytes taken step first old) (λ more. standard width K (as_read folds (map unit more)))
+          (λ more. (standard width K (as_read folds (map unit more)), refl, standard_apart width K (as_read folds (map unit more)))),
+    );
   }
 
   -- at the head of the loop: of the units taken, the match that ends with the last is still to come
@@ -68,25 +79,34 @@ module _ {V P O F S U : Type 0} {bytes : P → List ℕ} {taken : O → Option (
     pub goes-fits : (u : U) (t : S) → steps s (Some u) t → MakesProgress can left s (Some u) t → size width read + width (unit u) < 2 ^ 64
     goes-fits u t took goes = gave-fits can steps left unit width folds source as_wide h.gave u t took goes
 
-    -- what went out is right however the source goes on
-    stopped : (new : O) → ((more d : List ℕ) → IsReplacedSoFar bytes taken (flat_map form h.units ++ more) step (standard width K (read ++ d)) first old new)
-        → IsStreamedSoFar bytes taken step steps failure unit form (λ units. standard width K (as_read folds units)) source first old new
-    stopped new replaced = record {
-      units = h.units;
-      last = s;
-      took = h.gave.took;
-      replaced = inl (λ more. (
-          let d : List ℕ = as_read folds (map unit more) in
-          let R : List ℕ → List ℕ → Type 0 = λ text l. IsReplacedSoFar bytes taken text step (standard width K l) first old new in
-          let units : read ++ d ≡ as_read folds (map unit (h.units ++ more)) = ap (λ l. l ++ d) h.gave.is ∙ sym (as_read-append folds (map unit h.units) (map unit more)) ∙ ap (as_read folds) (sym (map-append unit h.units more)) in
-          subst (λ l. R (flat_map form (h.units ++ more)) l) units (subst (λ text. R text (read ++ d)) (sym (flat_map-append form h.units more)) (replaced (flat_map form more) d))
-          ));
-    }
+    abbrev Stops : Error → O → Type 0
+    Stops e new = IsStreamedSoFar bytes taken step steps failure unit form (λ units. standard width K (as_read folds units)) longest e source first old new
 
-    -- the output or the call for a match refused
-    pub stops-settling : (found : Option (Match V)) → found ≡ standard_after width K read → (new : O) → SettlesSoFar bytes taken step longest found held f out new
-        → IsStreamedSoFar bytes taken step steps failure unit form (λ units. standard width K (as_read folds units)) source first old new
-    stops-settling found here new part = stopped new (unsent-settled bytes taken step first old width K longest bound h.sent wide found here h.gains new part)
+    -- the units of a longer haystack, as they are read
+    read_on : (more : List U) → read ++ as_read folds (map unit more) ≡ as_read folds (map unit (h.units ++ more))
+    read_on more =
+        ap (λ l. l ++ as_read folds (map unit more)) h.gave.is
+        ∙ sym (as_read-append folds (map unit h.units) (map unit more))
+        ∙ ap (as_read folds) (sym (map-append unit h.units more))
+
+    -- what holds of each longer text holds of what the source may go on to give
+    on : (Q : List ℕ → List ℕ → Type 0) → ((more d : List ℕ) → Q (flat_map form h.units ++ more) (read ++ d)) → (more : List U) → Q (flat_map form (h.units ++ more)) (as_read folds (map unit (h.units ++ more)))
+    on Q each more =
+        let d : List ℕ = as_read folds (map unit more) in
+        subst (Q (flat_map form (h.units ++ more))) (read_on more) (subst (λ text. Q text (read ++ d)) (sym (flat_map-append form h.units more)) (each (flat_map form more) d))
+
+    module _ (found : Option (Match V)) (here : found ≡ standard_after width K read) (new : O) (e : Error) (part : SettlesSoFar bytes taken step e longest found held f out new) where
+      refused : (more d : List ℕ) → IsStopped bytes taken (flat_map form h.units ++ more) step e (standard width K (read ++ d)) first old new
+      refused = refused-settled bytes taken step first old width K longest bound h.sent wide found here h.gains new e part
+
+      -- the output or the call for a match refused
+      pub refuses-settling : (x : Error) → x ≡ e → Stops x new
+      refuses-settling x same = subst (λ y. Stops y new) (sym same) (record {
+        units = h.units;
+        last = s;
+        took = h.gave.took;
+        because = inr (inl (on (λ text l. IsStopped bytes taken text step e (standard width K l) first old new) refused));
+      })
 
     module _ (found : Option (Match V)) (here : found ≡ standard_after width K read) (rest : List ℕ) (g : F) (new : O) (settles : Settles bytes taken step longest found held f out rest g new) where
       settled : IsSent bytes taken step first old width K longest (flat_map form h.units) read (standard width K read) rest g new
@@ -107,24 +127,37 @@ module _ {V P O F S U : Type 0} {bytes : P → List ℕ} {taken : O → Option (
             subst R h.gave.is (sent-whole bytes taken step first old width K longest bound settled last went);
       }
 
-      -- nothing more went out
-      pub stops-settled : IsStreamedSoFar bytes taken step steps failure unit form (λ units. standard width K (as_read folds units)) source first old new
-      stops-settled = stopped new (unsent-nothing bytes taken step first old width K longest bound settled wide refl)
-
-      -- or the source came to its end, and the output refused some of what was held
-      pub stops-finishing : (ended : S) (last : O) (shown : List ℕ) → shown ≡ rest → steps s None ended → (last ≡ new) ⊎ ((failure ended ≡ None) × AppendsBeginning (taken new) (taken last) shown)
-          → IsStreamedSoFar bytes taken step steps failure unit form (λ units. standard width K (as_read folds units)) source first old last
-      stops-finishing ended last shown same ends (inl none) =
-          let P : O → Type 0 = λ o. IsStreamedSoFar bytes taken step steps failure unit form (λ units. standard width K (as_read folds units)) source first old o in
-          subst P (sym none) stops-settled
-      stops-finishing ended last shown same ends (inr (whole, part)) = record {
+      -- the source failed, or an allocation did
+      pub fails-settled : (e : Error) → FailsWith steps failure e s ⊎ (error_kind e ≡ OutOfMemory) → Stops e new
+      fails-settled e why = record {
         units = h.units;
         last = s;
         took = h.gave.took;
-        replaced =
-            let R : List ℕ → Type 0 = λ l. IsReplacedSoFar bytes taken (flat_map form h.units) step (standard width K l) first old last in
-            inr ((ended, ends, whole), subst R h.gave.is (unsent-whole bytes taken step first old width K longest bound settled last (subst (AppendsBeginning (taken new) (taken last)) same part)));
+        because = inl (
+          why,
+          on (λ text l. IsReplacedSoFar bytes taken text step (standard width K l) first old new) (unsent-nothing bytes taken step first old width K longest bound settled wide refl),
+          rest,
+          settled-few bytes taken step longest found held f out rest g new settles,
+          sent-back bytes taken step first old width K longest bound settled wide refl (λ more. standard width K (as_read folds (map unit (h.units ++ more))))
+              (λ more. (as_read folds (map unit more), ap (standard width K) (sym (read_on more)))),
+        );
       }
+
+      -- or the source came to its end, and the output refused some of what was held
+      module _ (ended : S) (last : O) (shown : List ℕ) (e : Error) (same : shown ≡ rest) (ends : steps s None ended) where
+        refused-at-end : AppendsPart (taken new) (taken last) shown → IsStopped bytes taken (flat_map form h.units) step e (standard width K read) first old last
+        refused-at-end part = refused-all bytes taken step first old width K longest bound settled last (subst (AppendsPart (taken new) (taken last)) same part) e
+
+        pub refuses-finishing : ((failure ended ≡ Some e) × (last ≡ new)) ⊎ ((failure ended ≡ None) × AppendsPart (taken new) (taken last) shown) → Stops e last
+        refuses-finishing (inl (fails, none)) = subst (Stops e) (sym none) (fails-settled e (inl (ended, ends, fails)))
+        refuses-finishing (inr (whole, part)) = record {
+          units = h.units;
+          last = s;
+          took = h.gave.took;
+          because =
+              let R : List ℕ → Type 0 = λ l. IsStopped bytes taken (flat_map form h.units) step e (standard width K l) first old last in
+              inr (inr ((ended, ends, whole), subst R h.gave.is (refused-at-end part)));
+        }
 
       -- one unit more
       pub goes-more : (u : U) (t : S) (after more : List ℕ) → steps s (Some u) t → MakesProgress can left s (Some u) t → length (form u) ≡ width (unit u)

@@ -6,6 +6,7 @@ pub mod Appended
 pub mod FirstMatches
 pub mod Cuts
 pub mod Exact
+pub mod Answered
 pub mod LeadsOn
 pub mod HeldLaws
 pub mod GaveUnitsLaws

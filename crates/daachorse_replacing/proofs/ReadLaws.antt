@@ -3,7 +3,7 @@ use Rattle.std.proofs.Common.{◌≡◌, ℕ, inl, inr, List, [], ◌∷◌, ◌
 use Rattle.std.proofs.lemmas.Bool.{false≢true}
 use Rattle.std.proofs.lemmas.List.{map-id}
 use Rattle.std.proofs.lemmas.List.Elements.{All-cons, All-nil}
-use Rattle.std.specs.Prelude.{All, IfSome, IsSome, OnErr, OnOk, ⊤, flat_map, map}
+use Rattle.std.specs.Prelude.{All, IfErr, IfSome, IsSome, OnOk, ⊤, flat_map, map}
 use Rattle.std.specs.Borrow.{MutBor}
 use Rattle.std.specs.Char.{IsScalar, encode_utf8}
 use Rattle.std.specs.Io.KnownBytes.{Consumes, IsAtEnd}
@@ -13,9 +13,17 @@ use Rattle.std.specs.declared.io.Error.{Error}
 use Rattle.std.proofs.KnownBytes.{Consumes-nil, Consumes-trans}
 use Rattle.daachorse_model.specs.declared.Match.{Match}
 use Rattle.daachorse_search.specs.Readers.{GivesByte, GivesCharacter, Reading, to_give, to_read}
-use Rattle.daachorse_replacing.specs.ReplacedWith.{IsReplaced, IsReplacedSoFar}
-use Rattle.daachorse_replacing.specs.Streams.{IsAtWholeEnd, IsReadReplaced, IsReadReplacedSoFar, IsStreamed, IsStreamedSoFar, ReplacesRead}
+use Rattle.daachorse_replacing.specs.ReplacedWith.{IsReplaced, IsReplacedSoFar, IsStopped}
+use Rattle.daachorse_replacing.specs.Streams.{IsAtWholeEnd, IsHeldBack, IsReadReplaced, IsReadReplacedSoFar, IsStreamed, IsStreamedSoFar, ReplacesRead}
+use Rattle.daachorse_model.specs.declared.MatchKind.{MatchKind}
+use Rattle.daachorse_model.specs.declared.MatchKind.TheVariants.{Standard, LeftmostLongest, LeftmostFirst}
+use Rattle.daachorse_model.specs.Dictionary.{Dictionary}
+use Rattle.daachorse_model.specs.Laws.{Follows}
+use Rattle.daachorse_model.proofs.Find.{standard_apart}
+use Rattle.daachorse_model.proofs.Overlap.{leftmost_apart}
+use Rattle.daachorse_replacing.specs.ByKind.{non_overlapping}
 use Rattle.daachorse_replacing.proofs.LeadsOn.{so_far_nothing}
+use Rattle.daachorse_replacing.proofs.HeldLaws.{held-back, held-first}
 
 -- what was taken to the end is all that was known
 all_taken : (a b : Option (List ℕ)) (text : List ℕ) → Consumes a b text → IsAtEnd b → IfSome a (λ left. left ≡ text)
@@ -84,6 +92,32 @@ module _ {V P O F R : Type 0} (bytes : P → List ℕ) (taken : O → Option (Li
       let M : (List ℕ → List (Match V)) → Type 0 = λ m. IsReplacedSoFar bytes taken (encode_utf8_all units) step (m units) f old new in
       subst M alike (subst (λ text. Q text units) (characters_are units) (subst (λ us. Q (flat_map encode_utf8 units) us) (map-id units) replaced))
 
+  bytes_stopped : (e : Error) (units : List ℕ) → IsStopped bytes taken (flat_map (λ b. b ∷ []) units) step e (found (map (λ b. b) units)) f old new → IsStopped bytes taken units step e (matches units) f old new
+  bytes_stopped e units stops =
+      let Q : List ℕ → List ℕ → Type 0 = λ text us. IsStopped bytes taken text step e (found us) f old new in
+      let M : (List ℕ → List (Match V)) → Type 0 = λ m. IsStopped bytes taken units step e (m units) f old new in
+      subst M alike (subst (λ text. Q text units) (bytes_are units) (subst (λ us. Q (flat_map (λ b. b ∷ []) units) us) (map-id units) stops))
+
+  characters_stopped : (e : Error) (units : List ℕ) → IsStopped bytes taken (flat_map encode_utf8 units) step e (found (map (λ c. c) units)) f old new → IsStopped bytes taken (encode_utf8_all units) step e (matches units) f old new
+  characters_stopped e units stops =
+      let Q : List ℕ → List ℕ → Type 0 = λ text us. IsStopped bytes taken text step e (found us) f old new in
+      let M : (List ℕ → List (Match V)) → Type 0 = λ m. IsStopped bytes taken (encode_utf8_all units) step e (m units) f old new in
+      subst M alike (subst (λ text. Q text units) (characters_are units) (subst (λ us. Q (flat_map encode_utf8 units) us) (map-id units) stops))
+
+  -- the same text, with the same matches
+  held_alike : (units : List ℕ) {text spelled held : List ℕ} → text ≡ spelled → IsHeldBack bytes taken step (λ more. found (map (λ u. u) (units ++ more))) text held f old new
+      → IsHeldBack bytes taken step (λ more. matches (units ++ more)) spelled held f old new
+  held_alike units same h = record {
+    done = h.done;
+    front = h.front;
+    parts = sym same ∙ h.parts;
+    replaced = h.replaced;
+    certain = λ more. (
+        let c = h.certain more in
+        (c.0, sym (ap (λ m. m (units ++ more)) alike) ∙ ap found (sym (map-id (units ++ more))) ∙ c.1, c.2)
+        );
+  }
+
   read-bytes : IsStreamed bytes taken step (GivesByte known) (λ (s : Reading R). s.failure) (λ b. b) (λ b. b ∷ []) found source f old new → IsReadReplaced bytes taken step (λ b. ⊤) (λ b. b) left matches f old new
   read-bytes h = record {
     units = h.units;
@@ -95,14 +129,19 @@ module _ {V P O F R : Type 0} (bytes : P → List ℕ) (taken : O → Option (Li
         subst M alike (subst (λ text. Q text h.units) (bytes_are h.units) (subst (λ units. Q (flat_map (λ b. b ∷ []) h.units) units) (map-id h.units) h.replaced));
   }
 
-  read-some_bytes : IsStreamedSoFar bytes taken step (GivesByte known) (λ (s : Reading R). s.failure) (λ b. b) (λ b. b ∷ []) found source f old new → IsReadReplacedSoFar bytes taken step (λ b. ⊤) (λ b. b) left matches f old new
-  read-some_bytes h = record {
+  read-some_bytes : (longest : ℕ) (e : Error) → IsStreamedSoFar bytes taken step (GivesByte known) (λ (s : Reading R). s.failure) (λ b. b) (λ b. b ∷ []) found longest e source f old new
+      → IsReadReplacedSoFar bytes taken step (λ b. ⊤) (λ b. b) left matches e f old new
+  read-some_bytes longest e h = record {
     units = h.units;
     are = λ k d inside. tt;
     begins =
         subst (λ o. IfSome o (λ l. (rest : List ℕ) × (l ≡ h.units ++ rest))) (starts_from known reads same)
         (some_taken (to_give known source) (to_give known h.last) h.units (byte_taken known source h.units h.last h.took));
-    replaced = elim h.replaced [ inl every ↦ inl (λ more. bytes_up_to (h.units ++ more) (every more)) | inr ends ↦ inr (all_bytes h.units h.last h.took ends.0, bytes_up_to h.units ends.1) ];
+    because = elim h.because [
+      | inl (why, every, held, few, back) ↦ inl ((λ more. bytes_up_to (h.units ++ more) (every more)), held, held_alike h.units (bytes_are h.units) back)
+      | inr (inl every) ↦ inr (inl (λ more. bytes_stopped e (h.units ++ more) (every more)))
+      | inr (inr (ends, stops)) ↦ inr (inr (all_bytes h.units h.last h.took ends, bytes_stopped e h.units stops))
+    ];
   }
 
   read-characters : IsStreamed bytes taken step (GivesCharacter known) (λ (s : Reading R). s.failure) (λ c. c) encode_utf8 found source f old new → IsReadReplaced bytes taken step IsScalar encode_utf8_all left matches f old new
@@ -116,42 +155,57 @@ module _ {V P O F R : Type 0} (bytes : P → List ℕ) (taken : O → Option (Li
         subst M alike (subst (λ text. Q text h.units) (characters_are h.units) (subst (λ units. Q (flat_map encode_utf8 h.units) units) (map-id h.units) h.replaced));
   }
 
-  read-some_characters : IsStreamedSoFar bytes taken step (GivesCharacter known) (λ (s : Reading R). s.failure) (λ c. c) encode_utf8 found source f old new
-      → IsReadReplacedSoFar bytes taken step IsScalar encode_utf8_all left matches f old new
-  read-some_characters h = record {
+  read-some_characters : (longest : ℕ) (e : Error) → IsStreamedSoFar bytes taken step (GivesCharacter known) (λ (s : Reading R). s.failure) (λ c. c) encode_utf8 found longest e source f old new
+      → IsReadReplacedSoFar bytes taken step IsScalar encode_utf8_all left matches e f old new
+  read-some_characters longest e h = record {
     units = h.units;
     are = are_scalars known source h.units h.last h.took;
     begins =
         subst (λ o. IfSome o (λ l. (rest : List ℕ) × (l ≡ encode_utf8_all h.units ++ rest))) (starts_from known reads same)
         (some_taken (to_give known source) (to_give known h.last) (encode_utf8_all h.units) (characters_taken known source h.units h.last h.took));
-    replaced =
-        elim h.replaced [ inl every ↦ inl (λ more. characters_up_to (h.units ++ more) (every more)) | inr ends ↦ inr (all_characters h.units h.last h.took ends.0, characters_up_to h.units ends.1) ];
+    because = elim h.because [
+      | inl (why, every, held, few, back) ↦ inl ((λ more. characters_up_to (h.units ++ more) (every more)), held, held_alike h.units (characters_are h.units) back)
+      | inr (inl every) ↦ inr (inl (λ more. characters_stopped e (h.units ++ more) (every more)))
+      | inr (inr (ends, stops)) ↦ inr (inr (all_characters h.units h.last h.took ends, characters_stopped e h.units stops))
+    ];
   }
 
   -- whatever came of it
-  pub replaces-bytes : (r : Result (Unit {0}) Error) → OnOk r (IsStreamed bytes taken step (GivesByte known) (λ (s : Reading R). s.failure) (λ b. b) (λ b. b ∷ []) found source f old new)
-      → OnErr r (IsStreamedSoFar bytes taken step (GivesByte known) (λ (s : Reading R). s.failure) (λ b. b) (λ b. b ∷ []) found source f old new)
+  pub replaces-bytes : (longest : ℕ) (r : Result (Unit {0}) Error) → OnOk r (IsStreamed bytes taken step (GivesByte known) (λ (s : Reading R). s.failure) (λ b. b) (λ b. b ∷ []) found source f old new)
+      → IfErr r (λ e. IsStreamedSoFar bytes taken step (GivesByte known) (λ (s : Reading R). s.failure) (λ b. b) (λ b. b ∷ []) found longest e source f old new)
       → ReplacesRead bytes taken step (λ b. ⊤) (λ b. b) left matches r f old new
-  replaces-bytes (Ok x) whole beginning = read-bytes whole
-  replaces-bytes (Err e) whole beginning = read-some_bytes beginning
+  replaces-bytes longest (Ok x) whole beginning = read-bytes whole
+  replaces-bytes longest (Err e) whole beginning = read-some_bytes longest e beginning
 
-  pub replaces-characters : (r : Result (Unit {0}) Error) → OnOk r (IsStreamed bytes taken step (GivesCharacter known) (λ (s : Reading R). s.failure) (λ c. c) encode_utf8 found source f old new)
-      → OnErr r (IsStreamedSoFar bytes taken step (GivesCharacter known) (λ (s : Reading R). s.failure) (λ c. c) encode_utf8 found source f old new)
+  pub replaces-characters : (longest : ℕ) (r : Result (Unit {0}) Error) → OnOk r (IsStreamed bytes taken step (GivesCharacter known) (λ (s : Reading R). s.failure) (λ c. c) encode_utf8 found source f old new)
+      → IfErr r (λ e. IsStreamedSoFar bytes taken step (GivesCharacter known) (λ (s : Reading R). s.failure) (λ c. c) encode_utf8 found longest e source f old new)
       → ReplacesRead bytes taken step IsScalar encode_utf8_all left matches r f old new
-  replaces-characters (Ok x) whole beginning = read-characters whole
-  replaces-characters (Err e) whole beginning = read-some_characters beginning
+  replaces-characters longest (Ok x) whole beginning = read-characters whole
+  replaces-characters longest (Err e) whole beginning = read-some_characters longest e beginning
 
 -- nothing was read yet
 pub read-nothing : {V P O E F : Type 0} (bytes : P → List ℕ) (taken : O → Option (List ℕ)) (step : F → Match V → P → MutBor O → Result (Unit {0}) E → MutBor O → F → Type 0)
-    (is_unit : ℕ → Type 0) (spelled : List ℕ → List ℕ) (known : Option (List ℕ)) (matches : List ℕ → List (Match V)) (f : F) (old : O) → spelled [] ≡ []
-    → IsReadReplacedSoFar bytes taken step is_unit spelled known matches f old old
-read-nothing bytes taken step is_unit spelled known matches f old none = record {
+    (is_unit : ℕ → Type 0) (spelled : List ℕ → List ℕ) (known : Option (List ℕ)) (matches : List ℕ → List (Match V)) (e : E) (f : F) (old : O) → spelled [] ≡ []
+    → ((units : List ℕ) → Follows 0 (matches units)) → IsReadReplacedSoFar bytes taken step is_unit spelled known matches e f old old
+read-nothing bytes taken step is_unit spelled known matches e f old none apart = record {
   units = [];
   are = All-nil is_unit;
   begins = by known;
-  replaced = inl (λ more. so_far_nothing bytes taken step f old (spelled more) 0 (matches more));
+  because =
+      let T : List ℕ → Type 0 = λ l. IsHeldBack bytes taken step matches l [] f old old in
+      inl (
+        (λ more. so_far_nothing bytes taken step f old (spelled more) 0 (matches more)),
+        [],
+        subst T (sym none) (held-back bytes taken step f old (held-first bytes taken step f old) matches (λ more. (matches more, refl, apart more))),
+      );
 }
   where
     by : (o : Option (List ℕ)) → IfSome o (λ l. (rest : List ℕ) × (l ≡ spelled [] ++ rest))
     by None = tt
     by (Some xs) = (xs, sym (ap (λ l. l ++ xs) none))
+
+-- the matches of a search that an automaton's kind names do not overlap
+pub non_overlapping_apart : {V : Type 0} (kind : MatchKind) (width : ℕ → ℕ) (K : Dictionary V) (h : List ℕ) → Follows 0 (non_overlapping kind width K h)
+non_overlapping_apart Standard width K h = standard_apart width K h
+non_overlapping_apart LeftmostLongest width K h = leftmost_apart width K h
+non_overlapping_apart LeftmostFirst width K h = leftmost_apart width K h

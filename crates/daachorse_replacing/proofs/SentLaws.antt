@@ -10,11 +10,10 @@ use Rattle.daachorse_model.specs.Laws.{Follows}
 use Rattle.daachorse_model.specs.Matches.{last_end, standard, standard_after}
 use Rattle.daachorse_model.specs.Units.{size}
 use Rattle.daachorse_model.proofs.Suffixes.{size-append}
-use Rattle.daachorse_replacing.specs.Replaced.{AppendsBeginning}
-use Rattle.daachorse_replacing.specs.ReplacedWith.{IsReplaced, IsReplacedSoFar, MayWriteFor}
-use Rattle.daachorse_replacing.specs.Streams.{EndsWithin, HasNoLonger, IsHeld, Settles, SettlesSoFar, before_match}
-use Rattle.daachorse_replacing.proofs.HeldLaws.{held-behind, held-count, held-first, held-more, held-past, held-whole, unheld-at, unheld-before, unheld-whole, unheld-within}
-use Rattle.daachorse_replacing.proofs.LeadsOn.{AppendsBeginning-nothing}
+use Rattle.daachorse_replacing.specs.Replaced.{AppendsPart}
+use Rattle.daachorse_replacing.specs.ReplacedWith.{IsReplaced, IsReplacedSoFar, IsStopped, MayWriteFor}
+use Rattle.daachorse_replacing.specs.Streams.{EndsWithin, HasNoLonger, IsHeld, IsHeldBack, Settles, SettlesSoFar, before_match, block}
+use Rattle.daachorse_replacing.proofs.HeldLaws.{answered-at, held-back, held-behind, held-count, held-first, held-more, held-past, held-whole, refused-before, refused-whole, refused-within, held-still}
 use Rattle.daachorse_replacing.proofs.StandardMatches.{EndsHere, last_end-push, standard-behind, standard-late, standard_after-ends}
 
 module _ {V P O E F : Type 0} (bytes : P → List ℕ) (taken : O → Option (List ℕ)) (step : F → Match V → P → MutBor O → Result (Unit {0}) E → MutBor O → F → Type 0) (first : F) (old : O)
@@ -78,13 +77,14 @@ module _ {V P O E F : Type 0} (bytes : P → List ℕ) (taken : O → Option (Li
         behind = inl (omega (arith, last_end-push 0 done m));
       }
 
-      unsent-matched : (ms : List (Match V)) → Follows m.end ms → (new : O) → SettlesSoFar bytes taken step longest (Some m) held f out new
-          → (more : List ℕ) → IsReplacedSoFar bytes taken (text ++ more) step (done ++ m ∷ ms) first old new
-      unsent-matched ms later new (inl part) =
-          unheld-before bytes taken step first old h.is m ms (starts, ends.ordered, later) inner new (subst (λ k. AppendsBeginning (taken out) (taken new) (take k held)) before part)
-      unsent-matched ms later new (inr (at, e, g, went, call)) =
-          let C : List ℕ → Type 0 = λ l. MayWriteFor bytes step f m l at (Err e) new g in
-          unheld-at bytes taken step first old h.is m ms (starts, ends.ordered, later) inner at new e g (subst (λ k. Appends (taken out) (taken at) (take k held)) before went) (subst C matched call)
+      module _ (ms : List (Match V)) (later : Follows m.end ms) (new : O) (e : E) where
+        refused-matched : SettlesSoFar bytes taken step e longest (Some m) held f out new → (more : List ℕ) → IsStopped bytes taken (text ++ more) step e (done ++ m ∷ ms) first old new
+        refused-matched (inl part) =
+            refused-before bytes taken step first old h.is m ms (starts, ends.ordered, later) inner new (subst (λ k. AppendsPart (taken out) (taken new) (take k held)) before part) e
+        refused-matched (inr (at, g, went, call)) =
+            let C : List ℕ → Type 0 = λ l. MayWriteFor bytes step f m l at (Err e) new g in
+            answered-at bytes taken step first old h.is m ms (starts, ends.ordered, later) inner at new e g
+            (subst (λ k. Appends (taken out) (taken at) (take k held)) before went) (subst C matched call)
 
       within-matched : EndsWithin held m
       within-matched = (ends.ordered, omega (arith, count, starts, ends.ends, h.sized))
@@ -121,32 +121,79 @@ module _ {V P O E F : Type 0} (bytes : P → List ℕ) (taken : O → Option (Li
     pub sent-whole : (new : O) → Appends (taken out) (taken new) held → IsReplaced bytes taken text step done first old new
     sent-whole = held-whole bytes taken step first old h.is
 
-    -- or a beginning of them
-    pub unsent-whole : (new : O) → AppendsBeginning (taken out) (taken new) held → IsReplacedSoFar bytes taken text step done first old new
-    unsent-whole = unheld-whole bytes taken step first old h.is
+    -- or the output refused some of them
+    pub refused-all : (new : O) → AppendsPart (taken out) (taken new) held → (e : E) → IsStopped bytes taken text step e done first old new
+    refused-all = refused-whole bytes taken step first old h.is
 
     module _ (wide : (u : ℕ) → 1 ≤ width u) where
-      -- the output took a beginning of n bytes that no later match may need
-      unsent-past : standard width K read ≡ done → (n : ℕ) → (n ≡ 0) ⊎ (n + longest ≤ length held) → n ≤ length held → (new : O) → AppendsBeginning (taken out) (taken new) (take n held)
-          → (more d : List ℕ) → IsReplacedSoFar bytes taken (text ++ more) step (standard width K (read ++ d)) first old new
-      unsent-past all n many inner new part more d =
-          let settled : (h.place + n ≤ last_end 0 done) ⊎ (h.place + n + longest ≤ size width read) =
-          elim many [ inl none ↦ elim h.behind [ inl p ↦ inl (omega (arith, p, none)) | inr p ↦ inr (omega (arith, p, none, h.sized)) ] | inr p ↦ inr (omega (arith, p, count, h.sized)) ] in
-          let late = standard-late width K longest bound (h.place + n) wide read d done all settled in
-          let D : List (Match V) → Type 0 = λ l. IsReplacedSoFar bytes taken (text ++ more) step l first old new in
-          subst D (sym late.1) (unheld-within bytes taken step first old h.is n inner late.0 late.2 new part more)
+      module _ (all : standard width K read ≡ done) (n : ℕ) (many : (n ≡ 0) ⊎ (n + longest ≤ length held)) where
+        -- the matches that are left, however the haystack goes on, where n bytes more are settled
+        late_from : (d : List ℕ) → (ms : List (Match V)) × (standard width K (read ++ d) ≡ done ++ ms) × Follows (h.place + n) ms
+        late_from d =
+            let settled : (h.place + n ≤ last_end 0 done) ⊎ (h.place + n + longest ≤ size width read) =
+            elim many [
+              | inl none ↦ elim h.behind [ inl p ↦ inl (omega (arith, p, none)) | inr p ↦ inr (omega (arith, p, none, h.sized)) ]
+              | inr p ↦ inr (omega (arith, p, count, h.sized))
+            ] in
+            standard-late width K longest bound (h.place + n) wide read d done all settled
 
-      -- nothing more went out
-      pub unsent-nothing : standard width K read ≡ done → (more d : List ℕ) → IsReplacedSoFar bytes taken (text ++ more) step (standard width K (read ++ d)) first old out
-      unsent-nothing all = unsent-past all 0 (inl refl) (omega arith) out (AppendsBeginning-nothing (taken out) [])
+        -- the output refused some of n bytes that no later match may need
+        refused-past : n ≤ length held → (new : O) → AppendsPart (taken out) (taken new) (take n held)
+            → (e : E) (more d : List ℕ) → IsStopped bytes taken (text ++ more) step e (standard width K (read ++ d)) first old new
+        refused-past inner new part e more d =
+            let late = late_from d in
+            let D : List (Match V) → Type 0 = λ l. IsStopped bytes taken (text ++ more) step e l first old new in
+            subst D (sym late.1) (refused-within bytes taken step first old h.is n inner late.0 late.2 new part e more)
 
-      -- or a beginning of what was to be settled went out
-      pub unsent-settled : (found : Option (Match V)) → found ≡ standard_after width K read → standard width K read ≡ done ++ option_to_list (standard_after width K read)
-          → (new : O) → SettlesSoFar bytes taken step longest found held f out new → (more d : List ℕ) → IsReplacedSoFar bytes taken (text ++ more) step (standard width K (read ++ d)) first old new
-      unsent-settled None is gains new (n, many, part) more d =
-          unsent-past (gains ∙ ap (λ o. done ++ option_to_list o) (sym is) ∙ append-nil done) n (inr many) (omega (arith, many)) new part more d
-      unsent-settled (Some m) is gains new part more d =
-          let one : standard width K read ≡ done ++ m ∷ [] = gains ∙ ap (λ o. done ++ option_to_list o) (sym is) in
-          let late = standard-late width K longest bound m.end wide read d (done ++ m ∷ []) one (inl (omega (arith, last_end-push 0 done m))) in
-          let D : List (Match V) → Type 0 = λ l. IsReplacedSoFar bytes taken (text ++ more) step l first old new in
-          subst D (sym (late.1 ∙ append_assoc done (m ∷ []) late.0)) (unsent-matched m (sym is) one late.0 late.2 new part more)
+      module _ (all : standard width K read ≡ done) where
+        -- nothing more went out
+        late_here : (d : List ℕ) → (ms : List (Match V)) × (standard width K (read ++ d) ≡ done ++ ms) × Follows h.place ms
+        late_here d =
+            let late = late_from all 0 (inl refl) d in
+            let place : h.place + 0 ≡ h.place = omega arith in
+            (late.0, late.1, subst (λ n. Follows n late.0) place late.2)
+
+        pub unsent-nothing : (more d : List ℕ) → IsReplacedSoFar bytes taken (text ++ more) step (standard width K (read ++ d)) first old out
+        unsent-nothing more d =
+            let late = late_here d in
+            let D : List (Match V) → Type 0 = λ l. IsReplacedSoFar bytes taken (text ++ more) step l first old out in
+            subst D (sym late.1) (held-still bytes taken step first old h.is late.0 late.2 more)
+
+        pub sent-back : {X : Type 0} (matches : X → List (Match V)) → ((more : X) → (d : List ℕ) × (matches more ≡ standard width K (read ++ d))) → IsHeldBack bytes taken step matches text held first old out
+        sent-back matches later =
+            held-back bytes taken step first old h.is matches (λ more. (
+            let d = later more in
+            let late = late_here d.0 in
+            (late.0, d.1 ∙ late.1, late.2)
+            ))
+
+      module _ (found : Option (Match V)) (here : found ≡ standard_after width K read) (gains : standard width K read ≡ done ++ option_to_list (standard_after width K read)) (new : O) (e : E) where
+        none_found : found ≡ None → standard width K read ≡ done
+        none_found is = gains ∙ ap (λ o. done ++ option_to_list o) (sym here ∙ is) ∙ append-nil done
+
+        module _ (m : Match V) (is : found ≡ Some m) where
+          one_found : standard width K read ≡ done ++ m ∷ []
+          one_found = gains ∙ ap (λ o. done ++ option_to_list o) (sym here ∙ is)
+
+          late_after : (d : List ℕ) → (ms : List (Match V)) × (standard width K (read ++ d) ≡ done ++ m ∷ ms) × Follows m.end ms
+          late_after d =
+              let late = standard-late width K longest bound m.end wide read d (done ++ m ∷ []) one_found (inl (omega (arith, last_end-push 0 done m))) in
+              (late.0, late.1 ∙ append_assoc done (m ∷ []) late.0, late.2)
+
+        refused-here : (o : Option (Match V)) → found ≡ o → SettlesSoFar bytes taken step e longest o held f out new
+            → (more d : List ℕ) → IsStopped bytes taken (text ++ more) step e (standard width K (read ++ d)) first old new
+        refused-here None is (n, many, part) more d = refused-past (none_found is) n (inr many) (omega (arith, many)) new part e more d
+        refused-here (Some m) is part more d =
+            let late = late_after m is d in
+            let D : List (Match V) → Type 0 = λ l. IsStopped bytes taken (text ++ more) step e l first old new in
+            subst D (sym late.1) (refused-matched m (sym here ∙ is) (one_found m is) late.0 late.2 new e part more)
+
+        -- the output refused some of what was to be settled, or the call returned the error
+        pub refused-settled : SettlesSoFar bytes taken step e longest found held f out new → (more d : List ℕ) → IsStopped bytes taken (text ++ more) step e (standard width K (read ++ d)) first old new
+        refused-settled = refused-here found refl
+
+-- what is held after that is no more than the longest key and a block
+pub settled-few : {V P O E F : Type 0} (bytes : P → List ℕ) (taken : O → Option (List ℕ)) (step : F → Match V → P → MutBor O → Result (Unit {0}) E → MutBor O → F → Type 0)
+    (longest : ℕ) (found : Option (Match V)) (held : List ℕ) (f : F) (old : O) (rest : List ℕ) (g : F) (new : O) → Settles bytes taken step longest found held f old rest g new → length rest ≤ longest + block
+settled-few bytes taken step longest None held f old rest g new (n, out, same) = out.few
+settled-few bytes taken step longest (Some m) held f old rest g new (at, went, call, none) = omega (arith, ap length none)

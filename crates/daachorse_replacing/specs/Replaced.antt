@@ -1,5 +1,5 @@
 -- A haystack with each of its matches replaced, as bytes.
-use Rattle.std.specs.Prelude.{◌≡◌, ℕ, ◌≤◌, List, [], ◌∷◌, ◌++◌, drop, length, map, slice_range, ⊤, Option}
+use Rattle.std.specs.Prelude.{◌≡◌, ◌≢◌, ℕ, ◌≤◌, List, [], ◌∷◌, ◌++◌, drop, length, map, slice_range, ⊤, Option}
 use Rattle.std.specs.Io.KnownBytes.{Appends}
 use Rattle.daachorse_model.specs.declared.Match.{Match}
 
@@ -46,6 +46,10 @@ module _ {V P : Type 0} (bytes : P → List ℕ) (haystack : List ℕ) (gives : 
 -- known bytes grow by a beginning of the text
 abbrev pub AppendsBeginning : Option (List ℕ) → Option (List ℕ) → List ℕ → Type 0
 AppendsBeginning old new text = (part : List ℕ) × (rest : List ℕ) × (text ≡ part ++ rest) × Appends old new part
+
+-- known bytes grow by a beginning of the text, and some of it is left
+abbrev pub AppendsPart : Option (List ℕ) → Option (List ℕ) → List ℕ → Type 0
+AppendsPart old new text = (part : List ℕ) × (rest : List ℕ) × (text ≡ part ++ rest) × (rest ≢ []) × Appends old new part
 
 module _ {V : Type 0} (may_cut : ℕ → Type 0) where
   -- from s on these matches follow one another, at places where the haystack may be cut

@@ -3,7 +3,7 @@ use Rattle.std.specs.Prelude.{◌≡◌, ◌⊎◌, ℕ, List, [], ◌∷◌, dr
 use Rattle.std.specs.Borrow.{MutBor}
 use Rattle.std.specs.Io.KnownBytes.{Appends}
 use Rattle.daachorse_model.specs.declared.Match.{Match}
-use Rattle.daachorse_replacing.specs.Replaced.{AppendsBeginning, with_pieces}
+use Rattle.daachorse_replacing.specs.Replaced.{AppendsBeginning, AppendsPart, with_pieces}
 
 module _ {V P O E F : Type 0} (bytes : P → List ℕ) (step : F → Match V → P → MutBor O → Result (Unit {0}) E → MutBor O → F → Type 0) where
   -- a call of f for the match, and for these bytes that it is, may return r, and takes the output from `old` to `new` and f to g
@@ -37,6 +37,18 @@ module _ {V P O E F : Type 0} (bytes : P → List ℕ) (taken : O → Option (Li
 
   abbrev pub IsReplacedSoFar : List (Match V) → F → O → O → Type 0
   IsReplacedSoFar ms f old new = IsReplacedSoFarFrom 0 ms f old new
+
+  -- The same where it stopped with this error: the output refused some of the bytes up to a match or after the last, or the call for a match returned the error.
+  abbrev pub IsStoppedFrom : E → ℕ → List (Match V) → F → O → O → Type 0
+  IsStoppedFrom e s [] f old new = AppendsPart (taken old) (taken new) (drop s haystack)
+  IsStoppedFrom e s (m ∷ ms) f old new =
+      AppendsPart (taken old) (taken new) (slice_range haystack s m.start)
+      ⊎ ((at : O) × Appends (taken old) (taken at) (slice_range haystack s m.start)
+      × (((g : F) × MayWrite f m at (Err e) new g)
+      ⊎ ((next : O) × (g : F) × MayWrite f m at (Ok tt) next g × IsStoppedFrom e m.end ms g next new)))
+
+  abbrev pub IsStopped : E → List (Match V) → F → O → O → Type 0
+  IsStopped e ms f old new = IsStoppedFrom e 0 ms f old new
 
   -- no call changes what was there, unless it returns an error
   abbrev pub OnlyAppends : Type 0

@@ -3,7 +3,7 @@
 ghost use Rattle.std.specs.Prelude.{◌≡◌, ℕ, List, Option, Some, OnErr, OnOk, length};
 ghost use Rattle.std.specs.Io.KnownBytes.{Appends};
 ghost use Rattle.std.specs.String.{string_bytes};
-ghost use Rattle.daachorse_replacing.specs.Replaced.{AppendsBeginning};
+ghost use Rattle.daachorse_replacing.specs.Replaced.{AppendsBeginning, AppendsPart};
 
 use crate::piece::Piece;
 use std::alloc::{AllocError, Allocator};
@@ -65,7 +65,7 @@ impl<P: Piece, W: Write> Appending<P, W> for ToWriter {
 /// [`ErrorKind::WriteZero`] if it takes none of some bytes, after a prefix was written.
 pub fn write_whole<W: Write>(out: &mut W, bytes: &[u8]) -> io::Result<()>
     ensures whole { OnOk result (Appends (W.contents out.old) (W.contents out.new) bytes.now) }
-    ensures beginning { OnErr result (AppendsBeginning (W.contents out.old) (W.contents out.new) bytes.now) }
+    ensures part { OnErr result (AppendsPart (W.contents out.old) (W.contents out.new) bytes.now) }
 {
     let mut rest = bytes;
     while !rest.is_empty() {

@@ -1,11 +1,11 @@
 //! The loop that replaces the matches in what a source gives.
 
-ghost use Rattle.std.specs.Prelude.{◌≡◌, ◌⊎◌, ℕ, ◌+◌, ◌≤◌, [], IfOk, IfSome, OnErr, OnOk, drop, length, take, None};
+ghost use Rattle.std.specs.Prelude.{◌≡◌, ◌⊎◌, ℕ, ◌+◌, ◌≤◌, [], IfErr, IfOk, IfSome, OnErr, OnOk, drop, length, take, None, Some};
 ghost use Rattle.std.specs.Io.KnownBytes.{Appends};
 ghost use Rattle.daachorse_model.specs.Folding.{as_read};
 ghost use Rattle.daachorse_model.specs.Matches.{standard};
 ghost use Rattle.daachorse_search.specs.Views.{IsStandard};
-ghost use Rattle.daachorse_replacing.specs.Replaced.{AppendsBeginning};
+ghost use Rattle.daachorse_replacing.specs.Replaced.{AppendsPart};
 ghost use Rattle.daachorse_replacing.specs.Streams.{EndsWithin, GoesOutSettled, HasNoLonger, IsStreamed, IsStreamedSoFar, Settles, SettlesSoFar};
 
 use crate::appending::write_whole;
@@ -61,8 +61,8 @@ where
     requires callable { F.IsAlwaysCallable write }
     ensures whole { OnOk result (IsStreamed (λ s. s.now) O.contents F.step S.next_gives S.failure A.Unit.unit A.Unit.form
         (λ units. standard A.Unit.width (A.sees automaton).content (as_read folds units)) source write out.old out.new) }
-    ensures beginning { OnErr result (IsStreamedSoFar (λ s. s.now) O.contents F.step S.next_gives S.failure A.Unit.unit A.Unit.form
-        (λ units. standard A.Unit.width (A.sees automaton).content (as_read folds units)) source write out.old out.new) }
+    ensures beginning { IfErr result (λ e. IsStreamedSoFar (λ s. s.now) O.contents F.step S.next_gives S.failure A.Unit.unit A.Unit.form
+        (λ units. standard A.Unit.width (A.sees automaton).content (as_read folds units)) longest e source write out.old out.new) }
 {
     let walk = FindWalk::new(automaton);
     let mut stepper = FindStepper::new(walk, &[], folds);
@@ -92,7 +92,7 @@ fn settle<V: Copy, O: Write, F: FnMut(Match<V>, &[u8], &mut O) -> io::Result<()>
     requires callable { F.IsAlwaysCallable write.old }
     ensures whole { OnOk result (Settles (λ s. s.now) O.contents F.step longest found held.old.items write.old out.old held.new.items write.new out.new) }
     ensures callable { OnOk result (F.IsAlwaysCallable write.new) }
-    ensures beginning { OnErr result (SettlesSoFar (λ s. s.now) O.contents F.step longest found held.old.items write.old out.old out.new) }
+    ensures stops { IfErr result (λ e. SettlesSoFar (λ s. s.now) O.contents F.step e longest found held.old.items write.old out.old out.new) }
 {
     let Some(found) = found else {
         put_out_settled(longest, held, out)?;
@@ -112,7 +112,7 @@ pub fn put_out_settled<O: Write, A: Allocator>(
     out: &mut O,
 ) -> io::Result<usize>
     ensures whole { IfOk result (λ n. GoesOutSettled O.contents longest n held.old.items out.old held.new.items out.new) }
-    ensures beginning { OnErr result ((n : ℕ) × (n + longest ≤ length held.old.items) × AppendsBeginning (O.contents out.old) (O.contents out.new) (take n held.old.items)) }
+    ensures part { OnErr result ((n : ℕ) × (n + longest ≤ length held.old.items) × AppendsPart (O.contents out.old) (O.contents out.new) (take n held.old.items)) }
 {
     let settled = held.len().saturating_sub(longest);
     if settled <= BLOCK {
@@ -131,7 +131,7 @@ fn put_out<O: Write, A: Allocator>(
     requires { count ≤ length held.old.items }
     ensures whole { OnOk result (Appends (O.contents out.old) (O.contents out.new) (take count held.old.items)) }
     ensures held { OnOk result (held.new.items ≡ drop count held.old.items) }
-    ensures beginning { OnErr result (AppendsBeginning (O.contents out.old) (O.contents out.new) (take count held.old.items)) }
+    ensures part { OnErr result (AppendsPart (O.contents out.old) (O.contents out.new) (take count held.old.items)) }
 {
     write_whole(out, &held[..count])?;
     drop_first(count, held);
@@ -154,7 +154,8 @@ fn finish<U: AsciiFold, S: ReadSource<U>, O: Write>(
     out: &mut O,
 ) -> io::Result<()>
     ensures whole { OnOk result ((S.failure source ≡ None) × Appends (O.contents out.old) (O.contents out.new) held.now) }
-    ensures beginning { OnErr result ((out.new ≡ out.old) ⊎ ((S.failure source ≡ None) × AppendsBeginning (O.contents out.old) (O.contents out.new) held.now)) }
+    ensures stops { IfErr result (λ e. ((S.failure source ≡ Some e) × (out.new ≡ out.old))
+        ⊎ ((S.failure source ≡ None) × AppendsPart (O.contents out.old) (O.contents out.new) held.now)) }
 {
     match source.into_failure() {
         Some(error) => Err(error),

@@ -11,10 +11,10 @@ use Rattle.daachorse_model.specs.Leftmost.{leftmost}
 use Rattle.daachorse_model.specs.Units.{size}
 use Rattle.daachorse_model.proofs.Find.{leftmost_occur}
 use Rattle.daachorse_model.proofs.Suffixes.{size-append}
-use Rattle.daachorse_replacing.specs.Replaced.{AppendsBeginning}
-use Rattle.daachorse_replacing.specs.ReplacedWith.{IsReplacedSoFar, MayWriteFor}
+use Rattle.daachorse_replacing.specs.Replaced.{AppendsPart}
+use Rattle.daachorse_replacing.specs.ReplacedWith.{IsStopped, MayWriteFor}
 use Rattle.daachorse_replacing.specs.Streams.{IsHeld}
-use Rattle.daachorse_replacing.proofs.HeldLaws.{held-behind, unheld-at, unheld-before}
+use Rattle.daachorse_replacing.proofs.HeldLaws.{answered-at, held-behind, refused-before}
 use Rattle.daachorse_replacing.proofs.StandardMatches.{Follows-behind, last_end-push}
 use Rattle.daachorse_streams.specs.Replacing.{GoesOut, GoesOutSoFar}
 
@@ -66,15 +66,16 @@ module _ {V P O E F : Type 0} {bytes : P → List ℕ} {taken : O → Option (Li
       }
 
       module _ (all : List (Match V)) (is : all ≡ given ++ m ∷ rest) where
-        -- the output took a beginning of the bytes before it
-        pub out-before : (new : O) → AppendsBeginning (taken out) (taken new) (take (m.start - place) held) → GoesOutSoFar bytes taken step all done start first f old new
-        out-before new part x y text was more =
-            let A : List (Match V) → Type 0 = λ l. IsReplacedSoFar bytes taken (text ++ more) step l x y new in
-            subst A (sym is) (unheld-before bytes taken step x y (h.holds x y text was) m rest next.after next.inner new part more)
+        -- the output refused some of the bytes before it
+        pub out-before : (new : O) → AppendsPart (taken out) (taken new) (take (m.start - place) held) → (e : E) → GoesOutSoFar bytes taken step e all done start first f old new
+        out-before new part e x y text was more =
+            let A : List (Match V) → Type 0 = λ l. IsStopped bytes taken (text ++ more) step e l x y new in
+            subst A (sym is) (refused-before bytes taken step x y (h.holds x y text was) m rest next.after next.inner new part e more)
 
-        -- the call for it returned an error
-        pub out-at : (at new : O) (e : E) (then : F) → Appends (taken out) (taken at) (take (m.start - place) held) → MayWriteFor bytes step g m (slice_range held (m.start - place) (m.end - place)) at (Err e) new then
-            → GoesOutSoFar bytes taken step all done start first f old new
+        -- the call for it returned this error
+        pub out-at : (at new : O) (e : E) (then : F) → Appends (taken out) (taken at) (take (m.start - place) held)
+            → MayWriteFor bytes step g m (slice_range held (m.start - place) (m.end - place)) at (Err e) new then
+            → GoesOutSoFar bytes taken step e all done start first f old new
         out-at at new e then went call x y text was more =
-            let A : List (Match V) → Type 0 = λ l. IsReplacedSoFar bytes taken (text ++ more) step l x y new in
-            subst A (sym is) (unheld-at bytes taken step x y (h.holds x y text was) m rest next.after next.inner at new e then went call more)
+            let A : List (Match V) → Type 0 = λ l. IsStopped bytes taken (text ++ more) step e l x y new in
+            subst A (sym is) (answered-at bytes taken step x y (h.holds x y text was) m rest next.after next.inner at new e then went call more)

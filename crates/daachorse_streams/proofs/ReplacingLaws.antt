@@ -1,5 +1,5 @@
 -- The loop over a source: what it took so far is what its stream read, and went out but for what is held, where no match that is to come starts before it.
-use Rattle.std.proofs.Common.{◌≡◌, ℕ, ◌+◌, ◌-◌, ◌<◌, ◌≤◌, ◌^◌, inl, inr, Bool, List, [], ◌++◌, length, map, take, Option, None, Result, refl, sym, ap, ◌∙◌, subst, append_assoc, append-nil, length-append, arith}
+use Rattle.std.proofs.Common.{◌≡◌, ℕ, ◌+◌, ◌-◌, ◌<◌, ◌≤◌, ◌^◌, ◌⊎◌, inl, inr, Bool, List, [], ◌++◌, length, map, take, Option, None, Result, refl, sym, ap, ◌∙◌, subst, append_assoc, append-nil, length-append, arith}
 use Rattle.std.specs.Prelude.{flat_map}
 use Rattle.std.proofs.lemmas.Grind.{flat_map-append}
 use Rattle.std.proofs.lemmas.List.{map-append}
@@ -7,6 +7,8 @@ use Rattle.std.specs.Borrow.{MutBor}
 use Rattle.std.specs.Io.KnownBytes.{Appends}
 use Rattle.std.specs.Iterator.{Count, Yields}
 use Rattle.std.specs.declared.io.Error.{Error}
+use Rattle.std.specs.declared.io.ErrorKind.TheVariants.{OutOfMemory}
+use Rattle.std.specs.IoError.{error_kind}
 use Rattle.daachorse_model.specs.declared.Match.{Match}
 use Rattle.daachorse_model.specs.Certain.{AreCertain, BeginEach}
 use Rattle.daachorse_model.specs.Dictionary.{Dictionary}
@@ -19,11 +21,11 @@ use Rattle.daachorse_model.proofs.FoldLaws.{as_read-append, size-as_read}
 use Rattle.daachorse_model.proofs.Suffixes.{size-append}
 use Rattle.daachorse_haystack.specs.ByteSources.{Yields_append}
 use Rattle.daachorse_haystack.specs.Sources.{IsReady}
-use Rattle.daachorse_replacing.specs.Replaced.{AppendsBeginning}
-use Rattle.daachorse_replacing.specs.ReplacedWith.{IsReplaced, IsReplacedSoFar}
-use Rattle.daachorse_replacing.specs.Streams.{GoesOutSettled, HasNoLonger, IsAtWholeEnd, IsHeld, IsStreamed, IsStreamedSoFar}
-use Rattle.daachorse_replacing.proofs.HeldLaws.{held-count, held-first, held-more, held-past, held-whole, unheld-whole, unheld-within}
-use Rattle.daachorse_replacing.proofs.LeadsOn.{AppendsBeginning-nothing, so_far_nothing}
+use Rattle.daachorse_replacing.specs.Replaced.{AppendsPart}
+use Rattle.daachorse_replacing.specs.ReplacedWith.{IsReplaced, IsReplacedSoFar, IsStopped}
+use Rattle.daachorse_replacing.specs.Streams.{FailsWith, GoesOutSettled, HasNoLonger, IsAtWholeEnd, IsHeld, IsStreamed, IsStreamedSoFar, block}
+use Rattle.daachorse_replacing.proofs.HeldLaws.{held-back, held-count, held-first, held-more, held-past, held-still, held-whole, refused-whole, refused-within}
+use Rattle.daachorse_replacing.proofs.LeadsOn.{so_far_nothing}
 use Rattle.daachorse_replacing.proofs.GaveUnitsLaws.{GaveUnits, gave-first}
 use Rattle.daachorse_streams.specs.Replacing.{GoesOut, GoesOutSoFar}
 use Rattle.daachorse_streams.proofs.LateMatches.{late_matches}
@@ -43,12 +45,24 @@ module _ {V P O F S U : Type 0} (bytes : P → List ℕ) (taken : O → Option (
   abbrev pub Whole : O → Type 0
   Whole = IsStreamed bytes taken step steps failure unit form (λ units. leftmost width K (as_read folds units)) source first old
 
-  abbrev pub SoFar : O → Type 0
-  SoFar = IsStreamedSoFar bytes taken step steps failure unit form (λ units. leftmost width K (as_read folds units)) source first old
+  abbrev pub Stops : ℕ → Error → O → Type 0
+  Stops longest e = IsStreamedSoFar bytes taken step steps failure unit form (λ units. leftmost width K (as_read folds units)) longest e source first old
 
-  -- nothing was taken yet
-  pub streams-nothing : SoFar old
-  streams-nothing = record { units = []; last = source; took = refl; replaced = inl (λ more. so_far_nothing bytes taken step first old (flat_map form more) 0 (leftmost width K (as_read folds (map unit more)))) }
+  -- nothing was taken yet, and an allocation failed
+  pub stops-nothing : (longest : ℕ) (e : Error) → error_kind e ≡ OutOfMemory → Stops longest e old
+  stops-nothing longest e memory = record {
+    units = [];
+    last = source;
+    took = refl;
+    because = inl (
+      inr memory,
+      (λ more. so_far_nothing bytes taken step first old (flat_map form more) 0 (leftmost width K (as_read folds (map unit more)))),
+      [],
+      omega arith,
+      held-back bytes taken step first old (held-first bytes taken step first old) (λ more. leftmost width K (as_read folds (map unit more)))
+          (λ more. (leftmost width K (as_read folds (map unit more)), refl, leftmost_apart width K (as_read folds (map unit more)))),
+    );
+  }
 
   pub goes-first : IsReady can steps left unit width source 0 → (read : List ℕ) (given : List (Match V)) (held : List ℕ) → read ≡ [] → given ≡ [] → held ≡ [] → Goes read given source 0 held first old
   goes-first ready read given held none no_match empty =
@@ -67,35 +81,47 @@ module _ {V P O F S U : Type 0} {bytes : P → List ℕ} {taken : O → Option (
     {can : S → Type 0} {steps : S → Option U → S → Type 0} {left : S → Count} {failure : S → Option Error} {unit : U → ℕ} {form : U → List ℕ} {width : ℕ → ℕ}
     {K : Dictionary V} {folds : Bool} {source : S} {read : List ℕ} {given : List (Match V)} {s : S} {place : ℕ} {held : List ℕ} {f : F} {out : O}
     (h : Goes bytes taken step first old can steps left failure unit form width K folds source read given s place held f out) where
-  abbrev StopsAt : O → Type 0
-  StopsAt = SoFar bytes taken step first old can steps left failure unit form width K folds source
-
   pub goes-count : place + length held ≡ size width read
   goes-count = held-count bytes taken step first old h.is ∙ h.sized
 
-  -- what went out is right however the source goes on
-  stopped : (new : O) → ((more d : List ℕ) → IsReplacedSoFar bytes taken (flat_map form h.units ++ more) step (leftmost width K (read ++ d)) first old new) → StopsAt new
-  stopped new replaced = record {
-    units = h.units;
-    last = s;
-    took = h.gave.took;
-    replaced = inl (λ more. (
-        let d : List ℕ = as_read folds (map unit more) in
-        let R : List ℕ → List ℕ → Type 0 = λ text l. IsReplacedSoFar bytes taken text step (leftmost width K l) first old new in
-        let units : read ++ d ≡ as_read folds (map unit (h.units ++ more)) =
-        ap (λ l. l ++ d) h.gave.is ∙ sym (as_read-append folds (map unit h.units) (map unit more)) ∙ ap (as_read folds) (sym (map-append unit h.units more)) in
-        subst (λ l. R (flat_map form (h.units ++ more)) l) units (subst (λ text. R text (read ++ d)) (sym (flat_map-append form h.units more)) (replaced (flat_map form more) d))
-        ));
-  }
+  abbrev StopsSo : ℕ → Error → O → Type 0
+  StopsSo = Stops bytes taken step first old can steps left failure unit form width K folds source
 
-  -- the source came to its end, and what went out is right for what it gave
-  stopped-at-end : IsAtWholeEnd steps failure s → (new : O) → IsReplacedSoFar bytes taken (flat_map form h.units) step (leftmost width K read) first old new → StopsAt new
-  stopped-at-end ends new replaced = record {
+  -- the units of a longer haystack, as they are read
+  read_on : (more : List U) → read ++ as_read folds (map unit more) ≡ as_read folds (map unit (h.units ++ more))
+  read_on more =
+      ap (λ l. l ++ as_read folds (map unit more)) h.gave.is
+      ∙ sym (as_read-append folds (map unit h.units) (map unit more))
+      ∙ ap (as_read folds) (sym (map-append unit h.units more))
+
+  -- what holds of each longer text holds of what the source may go on to give
+  on : (Q : List ℕ → List ℕ → Type 0) → ((more d : List ℕ) → Q (flat_map form h.units ++ more) (read ++ d))
+      → (more : List U) → Q (flat_map form (h.units ++ more)) (as_read folds (map unit (h.units ++ more)))
+  on Q each more =
+      let d : List ℕ = as_read folds (map unit more) in
+      subst (Q (flat_map form (h.units ++ more))) (read_on more) (subst (λ text. Q text (read ++ d)) (sym (flat_map-append form h.units more)) (each (flat_map form more) d))
+
+  -- it stopped however the source goes on
+  refused : (longest : ℕ) (x e : Error) (new : O) → x ≡ e → ((more d : List ℕ) → IsStopped bytes taken (flat_map form h.units ++ more) step e (leftmost width K (read ++ d)) first old new)
+      → StopsSo longest x new
+  refused longest x e new same each = subst (λ y. StopsSo longest y new) (sym same) (record {
     units = h.units;
     last = s;
     took = h.gave.took;
-    replaced = let R : List ℕ → Type 0 = λ l. IsReplacedSoFar bytes taken (flat_map form h.units) step (leftmost width K l) first old new in inr (ends, subst R h.gave.is replaced);
-  }
+    because = inr (inl (on (λ text l. IsStopped bytes taken text step e (leftmost width K l) first old new) each));
+  })
+
+  -- or after the source came to its end
+  refused-at-end : IsAtWholeEnd steps failure s → (longest : ℕ) (x e : Error) (new : O) → x ≡ e → IsStopped bytes taken (flat_map form h.units) step e (leftmost width K read) first old new
+      → StopsSo longest x new
+  refused-at-end ends longest x e new same stops = subst (λ y. StopsSo longest y new) (sym same) (record {
+    units = h.units;
+    last = s;
+    took = h.gave.took;
+    because =
+        let T : List ℕ → Type 0 = λ l. IsStopped bytes taken (flat_map form h.units) step e (leftmost width K l) first old new in
+        inr (inr (ends, subst T h.gave.is stops));
+  })
 
   was_held : (done : List (Match V)) → done ≡ given → IsHeld bytes taken step first old (flat_map form h.units) done place held f out
   was_held done same = let P : List (Match V) → Type 0 = λ l. IsHeld bytes taken step first old (flat_map form h.units) l place held f out in subst P (sym same) h.is
@@ -121,34 +147,43 @@ module _ {V P O F S U : Type 0} {bytes : P → List ℕ} {taken : O → Option (
   }
 
   -- or did so up to a refusal
-  pub stops-out : (all : List ℕ → List (Match V)) (new : O) → ((d : List ℕ) → all d ≡ leftmost width K (read ++ d)) → ((d : List ℕ) → GoesOutSoFar bytes taken step (all d) given place held f out new) → StopsAt new
-  stops-out all new is went = stopped new (λ more d. (
-      let P : List (Match V) → Type 0 = λ l. IsReplacedSoFar bytes taken (flat_map form h.units ++ more) step l first old new in
+  pub stops-out : (longest : ℕ) (x e : Error) (all : List ℕ → List (Match V)) (new : O) → x ≡ e → ((d : List ℕ) → all d ≡ leftmost width K (read ++ d))
+      → ((d : List ℕ) → GoesOutSoFar bytes taken step e (all d) given place held f out new) → StopsSo longest x new
+  stops-out longest x e all new same is went = refused longest x e new same (λ more d. (
+      let P : List (Match V) → Type 0 = λ l. IsStopped bytes taken (flat_map form h.units ++ more) step e l first old new in
       subst P (is d) (went d first old (flat_map form h.units) h.is more)
       ))
 
   -- or after the source came to its end
-  pub stops-out-at-end : IsAtWholeEnd steps failure s → (done all : List (Match V)) (new : O) → done ≡ given → all ≡ leftmost width K read → GoesOutSoFar bytes taken step all done place held f out new → StopsAt new
-  stops-out-at-end ends done all new same is went =
+  pub stops-out-at-end : IsAtWholeEnd steps failure s → (longest : ℕ) (x e : Error) (done all : List (Match V)) (new : O) → x ≡ e → done ≡ given → all ≡ leftmost width K read
+      → GoesOutSoFar bytes taken step e all done place held f out new → StopsSo longest x new
+  stops-out-at-end ends longest x e done all new is_same same is went =
       let text = flat_map form h.units in
-      let P : List (Match V) → Type 0 = λ l. IsReplacedSoFar bytes taken text step l first old new in
-      let T : List ℕ → Type 0 = λ l. IsReplacedSoFar bytes taken l step all first old new in
-      stopped-at-end ends new (subst P is (subst T (append-nil text) (went first old text (was_held done same) [])))
+      let P : List (Match V) → Type 0 = λ l. IsStopped bytes taken text step e l first old new in
+      let T : List ℕ → Type 0 = λ l. IsStopped bytes taken l step e all first old new in
+      refused-at-end ends longest x e new is_same (subst P is (subst T (append-nil text) (went first old text (was_held done same) [])))
 
-  -- The output took a beginning of the next n bytes, before any match that is to come. Those before are certain.
-  stops-before : (n : ℕ) (new : O) → n ≤ length held → BeginEach width K read given → ((d : List ℕ) (rest : List (Match V)) → leftmost width K (read ++ d) ≡ given ++ rest → Follows (place + n) rest)
-      → AppendsBeginning (taken out) (taken new) (take n held) → StopsAt new
-  stops-before n new inner begins after part = stopped new (λ more d. (
-      let P : List (Match V) → Type 0 = λ l. IsReplacedSoFar bytes taken (flat_map form h.units ++ more) step l first old new in
-      let rest = begins d in
-      subst P (sym rest.1) (unheld-within bytes taken step first old h.is n inner rest.0 (after d rest.0 rest.1) new part more)
-      ))
-
-  -- nothing more went out
-  pub stops-here : BeginEach width K read given → StopsAt out
-  stops-here begins =
-      let same : place ≡ place + 0 = omega arith in
-      stops-before 0 out (omega arith) begins (λ d rest is. subst (λ n. Follows n rest) same (h.behind d rest is)) (AppendsBeginning-nothing (taken out) (take 0 held))
+  -- nothing more went out: the source failed, or an allocation did
+  pub stops-here : BeginEach width K read given → (longest : ℕ) (e : Error) → length held ≤ longest + block → FailsWith steps failure e s ⊎ (error_kind e ≡ OutOfMemory) → StopsSo longest e out
+  stops-here begins longest e few why = record {
+    units = h.units;
+    last = s;
+    took = h.gave.took;
+    because = inl (
+      why,
+      on (λ text l. IsReplacedSoFar bytes taken text step (leftmost width K l) first old out) (λ more d. (
+          let P : List (Match V) → Type 0 = λ l. IsReplacedSoFar bytes taken (flat_map form h.units ++ more) step l first old out in
+          let rest = begins d in
+          subst P (sym rest.1) (held-still bytes taken step first old h.is rest.0 (h.behind d rest.0 rest.1) more)
+          )),
+      held,
+      few,
+      held-back bytes taken step first old h.is (λ more. leftmost width K (as_read folds (map unit (h.units ++ more)))) (λ more. (
+          let rest = begins (as_read folds (map unit more)) in
+          (rest.0, ap (leftmost width K) (sym (read_on more)) ∙ rest.1, h.behind (as_read folds (map unit more)) rest.0 rest.1)
+          )),
+    );
+  }
 
   module _ (wide : (u : ℕ) → 1 ≤ width u) {longest : ℕ} (bound : HasNoLonger width K longest) (certain : AreCertain width K read given) where
     -- no match that is to come starts in the bytes before the last `longest`
@@ -171,9 +206,13 @@ module _ {V P O F S U : Type 0} {bytes : P → List ℕ} {taken : O → Option (
       ];
     }
 
-    -- or a beginning of them
-    pub stops-settled : (new : O) → (n : ℕ) × (n + longest ≤ length held) × AppendsBeginning (taken out) (taken new) (take n held) → StopsAt new
-    stops-settled new (n, many, part) = stops-before n new (omega (arith, many)) certain.0 (late n many) part
+    -- or the output refused some of them
+    pub stops-settled : (x e : Error) (new : O) → x ≡ e → (n : ℕ) × (n + longest ≤ length held) × AppendsPart (taken out) (taken new) (take n held) → StopsSo longest x new
+    stops-settled x e new same (n, many, part) = refused longest x e new same (λ more d. (
+        let P : List (Match V) → Type 0 = λ l. IsStopped bytes taken (flat_map form h.units ++ more) step e l first old new in
+        let rest = certain.0 d in
+        subst P (sym rest.1) (refused-within bytes taken step first old h.is n (omega (arith, many)) rest.0 (late n many d rest.0 rest.1) new part e more)
+        ))
 
   module _ (as_wide : (u : ℕ) → width (folded_unit u) ≡ width u) where
     -- the places of the bytes held fit
@@ -229,8 +268,8 @@ module _ {V P O F S U : Type 0} {bytes : P → List ℕ} {taken : O → Option (
           subst (λ l. R (leftmost width K l)) h.gave.is (subst R all (held-whole bytes taken step first old h.is last went));
     }
 
-    -- or a beginning of it
-    pub stops-at-end : IsAtWholeEnd steps failure s → (last : O) → AppendsBeginning (taken out) (taken last) held → StopsAt last
-    stops-at-end ends last part =
-        let R : List (Match V) → Type 0 = λ ms. IsReplacedSoFar bytes taken (flat_map form h.units) step ms first old last in
-        stopped-at-end ends last (subst R all (unheld-whole bytes taken step first old h.is last part))
+    -- or the output refused some of it
+    pub stops-at-end : IsAtWholeEnd steps failure s → (longest : ℕ) (e : Error) (last : O) → AppendsPart (taken out) (taken last) held → StopsSo longest e last
+    stops-at-end ends longest e last part =
+        let R : List (Match V) → Type 0 = λ ms. IsStopped bytes taken (flat_map form h.units) step e ms first old last in
+        refused-at-end ends longest e e last refl (subst R all (refused-whole bytes taken step first old h.is last part e))

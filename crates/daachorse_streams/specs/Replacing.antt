@@ -3,7 +3,7 @@ use Rattle.std.specs.Prelude.{◌≡◌, ℕ, List, ◌++◌, Option, Result}
 use Rattle.std.specs.Borrow.{MutBor}
 use Rattle.daachorse_model.specs.declared.Match.{Match}
 use Rattle.daachorse_model.specs.Matches.{last_end}
-use Rattle.daachorse_replacing.specs.ReplacedWith.{IsReplacedSoFar}
+use Rattle.daachorse_replacing.specs.ReplacedWith.{IsStopped}
 use Rattle.daachorse_replacing.specs.Streams.{IsHeld}
 
 module _ {V P O E F : Type 0} (bytes : P → List ℕ) (taken : O → Option (List ℕ)) (step : F → Match V → P → MutBor O → Result (Unit {0}) E → MutBor O → F → Type 0) where
@@ -14,8 +14,8 @@ module _ {V P O E F : Type 0} (bytes : P → List ℕ) (taken : O → Option (Li
     pub ends : next ≡ last_end place more
     pub holds : (first : F) (start : O) (text : List ℕ) → IsHeld bytes taken step first start text done place held f old → IsHeld bytes taken step first start text given next rest g new
 
-  -- the same up to a refusal: however each such text goes on, it went out so far with all these matches replaced
-  abbrev pub GoesOutSoFar : List (Match V) → List (Match V) → ℕ → List ℕ → F → O → O → Type 0
-  GoesOutSoFar all done place held f old new =
+  -- the same where it stopped with this error: however each such text goes on, its replacement stopped so among all these matches
+  abbrev pub GoesOutSoFar : E → List (Match V) → List (Match V) → ℕ → List ℕ → F → O → O → Type 0
+  GoesOutSoFar e all done place held f old new =
       (first : F) (start : O) (text : List ℕ) → IsHeld bytes taken step first start text done place held f old
-      → (more : List ℕ) → IsReplacedSoFar bytes taken (text ++ more) step all first start new
+      → (more : List ℕ) → IsStopped bytes taken (text ++ more) step e all first start new

@@ -1,6 +1,6 @@
 //! The loop that replaces the leftmost matches in what a source gives.
 
-ghost use Rattle.std.specs.Prelude.{◌≡◌, ◌+◌, ◌++◌, ℕ, true, List, [], OnErr, OnOk, length};
+ghost use Rattle.std.specs.Prelude.{◌≡◌, ◌+◌, ◌++◌, ℕ, true, List, [], IfErr, OnOk, length};
 ghost use Rattle.daachorse_model.specs.Folding.{as_read};
 ghost use Rattle.daachorse_model.specs.Laws.{Follows};
 ghost use Rattle.daachorse_model.specs.Leftmost.{leftmost};
@@ -73,8 +73,8 @@ where
     requires callable { F.IsAlwaysCallable write }
     ensures whole { OnOk result (IsStreamed (λ s. s.now) O.contents F.step S.next_gives S.failure A.Unit.unit A.Unit.form
         (λ units. leftmost A.Unit.width (A.sees automaton).content (as_read folds units)) source write out.old out.new) }
-    ensures beginning { OnErr result (IsStreamedSoFar (λ s. s.now) O.contents F.step S.next_gives S.failure A.Unit.unit A.Unit.form
-        (λ units. leftmost A.Unit.width (A.sees automaton).content (as_read folds units)) source write out.old out.new) }
+    ensures beginning { IfErr result (λ e. IsStreamedSoFar (λ s. s.now) O.contents F.step S.next_gives S.failure A.Unit.unit A.Unit.form
+        (λ units. leftmost A.Unit.width (A.sees automaton).content (as_read folds units)) marks.now.longest e source write out.old out.new) }
 {
     let longest = marks.longest;
     let mut stream = LeftmostStream::new(alloc, automaton, marks, folds)?;
@@ -117,8 +117,8 @@ fn replace_certain<
     ensures settled { OnOk result (IsSettled A.Unit.width (A.sees stream.new.automaton).content stream.new stream.new) }
     ensures callable { OnOk result (F.IsAlwaysCallable write.new) }
     ensures whole { OnOk result (GoesOut (λ s. s.now) O.contents F.step stream.old.given stream.new.given held.old.place held.old.bytes.items write.old out.old held.new.place held.new.bytes.items write.new out.new) }
-    ensures beginning { OnErr result ((d : List ℕ) → (stream.old.ended ≡ true → d ≡ [])
-        → GoesOutSoFar (λ s. s.now) O.contents F.step (leftmost A.Unit.width (A.sees stream.old.automaton).content (stream.old.read ++ d)) stream.old.given held.old.place held.old.bytes.items write.old out.old out.new) }
+    ensures beginning { IfErr result (λ e. (d : List ℕ) → (stream.old.ended ≡ true → d ≡ [])
+        → GoesOutSoFar (λ s. s.now) O.contents F.step e (leftmost A.Unit.width (A.sees stream.old.automaton).content (stream.old.read ++ d)) stream.old.given held.old.place held.old.bytes.items write.old out.old out.new) }
 {
     'matches: while let Some(found) = stream.next_certain() {
         let start = found.start - held.place;

@@ -30,8 +30,8 @@ impl<V: Copy, A: Allocator + Copy> DoubleArrayAhoCorasick<V, A> {
     /// the longest it lists the patterns first, for which it takes what [`Self::iter`] takes.
     ///
     /// Stops at the first error, of the reader, of the writer, of `write` or of an allocation. The
-    /// writer then has a beginning of what it was to get. A read that was interrupted is tried
-    /// again. The writer is not flushed.
+    /// writer then has a beginning of what it was to get, whatever would have been read next. A
+    /// read that was interrupted is tried again. The writer is not flushed.
     pub fn replace_all_from_reader<
         R: Read + Drop,
         O: Write,

@@ -34,8 +34,8 @@ impl<V: Copy, A: Allocator + Copy> CharwiseDoubleArrayAhoCorasick<V, A> {
     ///
     /// Stops at the first error, of the reader, of the writer, of `write` or of an allocation, and
     /// at bytes that are no UTF-8 with [`InvalidData`](io::ErrorKind::InvalidData). The writer then
-    /// has a beginning of what it was to get. A read that was interrupted is tried again. The
-    /// writer is not flushed.
+    /// has a beginning of what it was to get, whatever would have been read next. A read that was
+    /// interrupted is tried again. The writer is not flushed.
     pub fn replace_all_from_reader<
         R: Read + Drop,
         O: Write,

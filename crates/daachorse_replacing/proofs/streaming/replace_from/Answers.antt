@@ -1,12 +1,12 @@
 -- Each round puts out what is settled, and takes one unit more.
-use Rattle.std.proofs.Common.{◌≡◌, ℕ, ◌∷◌, ◌++◌, [], List, Option, ap, ◌∙◌, subst}
-use Rattle.std.proofs.lemmas.Result.{err_from_is_err_and, on_err_weaker, on_ok_weaker}
+use Rattle.std.proofs.Common.{◌≡◌, inr, ℕ, ◌∷◌, ◌++◌, [], List, Option, ap, ◌∙◌, subst}
+use Rattle.std.proofs.lemmas.Result.{IfErr-weaker, err_from_is_err_and, on_ok_weaker}
 use Rattle.std.specs.Io.KnownBytes.{Appends}
 use Rattle.daachorse_model.specs.declared.Match.{Match}
 use Rattle.daachorse_model.specs.Folding.{as_read}
 use Rattle.daachorse_model.specs.Matches.{standard_after}
 use Rattle.daachorse_search.specs.Views.{AutomatonView}
-use Rattle.daachorse_replacing.proofs.GoesLaws.{goes-first, goes-fits, goes-more, goes-to-end, goes-within, stops-finishing, stops-settled, stops-settling, streams-nothing}
+use Rattle.daachorse_replacing.proofs.GoesLaws.{goes-first, goes-fits, goes-more, goes-to-end, fails-settled, goes-within, refuses-finishing, refuses-settling, stops-before}
 use Rattle.daachorse_replacing.proofs.streaming.replace_from.Goals as goal
 
 -- the automaton is that of the start
@@ -18,7 +18,7 @@ pub returns-in_err-held-clause-beginning : goal.returns-in_err-held-clause-begin
 returns-in_err-held-clause-beginning g c =
     let p = err_from_is_err_and c.from_residual.result c.from_residual.ensures.1 in
     let S = g.S.Iterator in let label = g.A.Unit.EdgeLabel in
-    rw p.1 (streams-nothing _ _ _ _ _ S.can_next S.next_gives S.remaining _ label.unit label.form label.width (λ w. []) 0 c.args.folds _ _)
+    rw p.1 (stops-before _ _ _ _ _ S.can_next S.next_gives S.remaining _ label.unit label.form label.width (g.A.Automaton.sees c.args.automaton).content c.args.longest c.args.folds _ _ p.2)
 
 pub units-init : goal.units-init
 units-init g c =
@@ -44,8 +44,8 @@ pub returns-in_err-settle-clause-beginning : goal.returns-in_err-settle-clause-b
 returns-in_err-settle-clause-beginning g c =
     let p = err_from_is_err_and c.from_residual-in_err-settle.result c.from_residual-in_err-settle.ensures.1 in
     let was = c.units.invariant in
-    rw p.1 (stops-settling g.met.A.Unit.EdgeLabel.wide g.met.A.Unit.AsciiFold.as_wide c.requires.longest was.goes c.matches.result (as_started g.A.Automaton.sees g.A.Unit.EdgeLabel.width c.units.stepper.read was.automaton c.matches.ensures)
-    _ c.in_err-settle.ensures.beginning)
+    rw p.1 (refuses-settling g.met.A.Unit.EdgeLabel.wide g.met.A.Unit.AsciiFold.as_wide c.requires.longest was.goes c.matches.result
+    (as_started g.A.Automaton.sees g.A.Unit.EdgeLabel.width c.units.stepper.read was.automaton c.matches.ensures) _ _ c.in_err-settle.ensures.stops _ p.2)
 
 pub next-requires : goal.next-requires
 next-requires g c = c.units.invariant.goes.gave.ready.callable
@@ -59,15 +59,16 @@ returns-in_default-clause-whole g c =
 pub returns-in_default-clause-beginning : goal.returns-in_default-clause-beginning
 returns-in_default-clause-beginning g c =
     let was = c.units.invariant in
-    on_err_weaker c.finish.result (λ out. stops-finishing g.met.A.Unit.EdgeLabel.wide g.met.A.Unit.AsciiFold.as_wide c.requires.longest was.goes c.matches.result
-    (as_started g.A.Automaton.sees g.A.Unit.EdgeLabel.width c.units.stepper.read was.automaton c.matches.ensures) _ _ _ c.in_ok-settle.ensures.whole _ _ _ c.deref.ensures.value c.in_default.ensures.steps out) c.finish.ensures.beginning
+    IfErr-weaker c.finish.result _ _ (λ e out. refuses-finishing g.met.A.Unit.EdgeLabel.wide g.met.A.Unit.AsciiFold.as_wide c.requires.longest was.goes c.matches.result
+    (as_started g.A.Automaton.sees g.A.Unit.EdgeLabel.width c.units.stepper.read was.automaton c.matches.ensures) _ _ _ c.in_ok-settle.ensures.whole
+    _ _ _ e c.deref.ensures.value c.in_default.ensures.steps out) c.finish.ensures.stops
 
 pub returns-in_err-append_to-clause-beginning : goal.returns-in_err-append_to-clause-beginning
 returns-in_err-append_to-clause-beginning g c =
     let p = err_from_is_err_and c.from_residual-in_err-append_to.result c.from_residual-in_err-append_to.ensures.1 in
     let was = c.units.invariant in
-    rw p.1 (stops-settled g.met.A.Unit.EdgeLabel.wide g.met.A.Unit.AsciiFold.as_wide c.requires.longest was.goes c.matches.result
-    (as_started g.A.Automaton.sees g.A.Unit.EdgeLabel.width c.units.stepper.read was.automaton c.matches.ensures) _ _ _ c.in_ok-settle.ensures.whole)
+    rw p.1 (fails-settled g.met.A.Unit.EdgeLabel.wide g.met.A.Unit.AsciiFold.as_wide c.requires.longest was.goes c.matches.result
+    (as_started g.A.Automaton.sees g.A.Unit.EdgeLabel.width c.units.stepper.read was.automaton c.matches.ensures) _ _ _ c.in_ok-settle.ensures.whole _ (inr p.2))
 
 pub consume-requires : goal.consume-requires
 consume-requires g c =

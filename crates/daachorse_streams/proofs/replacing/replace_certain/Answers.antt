@@ -7,7 +7,8 @@ use Rattle.std.specs.Prelude.{slice_range}
 use Rattle.daachorse_model.specs.declared.Match.{Match}
 use Rattle.daachorse_model.specs.Leftmost.{leftmost}
 use Rattle.daachorse_model.specs.Units.{size}
-use Rattle.daachorse_replacing.specs.Replaced.{AppendsBeginning}
+use Rattle.daachorse_replacing.specs.Replaced.{AppendsPart}
+use Rattle.daachorse_replacing.proofs.Answered.{answered}
 use Rattle.daachorse_streams.proofs.GoesOutLaws.{IsNext, out-at, out-before, out-more, out-next, out-nothing}
 use Rattle.daachorse_streams.proofs.replacing.replace_certain.Given as given
 use Rattle.daachorse_streams.proofs.replacing.replace_certain.Goals as goal
@@ -86,7 +87,7 @@ pub returns-in_err-write_whole-clause-beginning : goal.returns-in_err-write_whol
 returns-in_err-write_whole-clause-beginning g c =
     let p = err_from_is_err_and c.from_residual.result c.from_residual.ensures.1 in
     let m = c.in-Some.found in let place = c.matches.held.place in
-    rw p.1 (λ d known. let here = gives_on g (goal.at.returns-in_err-write_whole-clause-beginning g c).In-Some d known in out-before c.matches.invariant.out m here.rest here.next _ here.is _ (subst (AppendsBeginning _ _) (ap (take (m.start - place)) c.deref.ensures.value) c.in_err-write_whole.ensures.beginning))
+    rw p.1 (λ d known. let here = gives_on g (goal.at.returns-in_err-write_whole-clause-beginning g c).In-Some d known in out-before c.matches.invariant.out m here.rest here.next _ here.is _ (subst (AppendsPart _ _) (ap (take (m.start - place)) c.deref.ensures.value) c.in_err-write_whole.ensures.part) _)
 
 pub slice_bounds-write-count : goal.slice_bounds-write-count
 slice_bounds-write-count g c = let after = (gives g (goal.at.slice_bounds-write-count g c).In-Some).next.after in omega (arith, after.0, after.1)
@@ -102,7 +103,7 @@ returns-in_err-write-clause-beginning g c =
     let p = err_from_is_err_and c.from_residual-in_err-write.result c.from_residual-in_err-write.ensures.1 in
     let m = c.in-Some.found in let place = c.matches.held.place in
     rw p.1 (λ d known. let here = gives_on g (goal.at.returns-in_err-write-clause-beginning g c).In-Some d known in out-at c.matches.invariant.out m here.rest here.next _ here.is _ _ _ _ (subst (Appends _ _) (ap (take (m.start - place)) c.deref.ensures.value) c.in_ok-write_whole.ensures.whole)
-    (_, _, _, ap (λ l. slice_range l (m.start - place) (m.end - place)) c.deref-in-Some.ensures.value, refl, refl, c.in_err-write.ensures))
+    (_, _, _, ap (λ l. slice_range l (m.start - place) (m.end - place)) c.deref-in-Some.ensures.value, refl, refl, answered (given.F-step g) p.2 c.in_err-write.ensures))
 
 pub drop_first-requires : goal.drop_first-requires
 drop_first-requires g c = let next = (gives g (goal.at.drop_first-requires g c).In-Some).next in omega (arith, next.inner, next.after.0, next.after.1)

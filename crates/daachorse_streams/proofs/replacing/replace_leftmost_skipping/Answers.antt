@@ -1,7 +1,7 @@
 -- Each round puts out what is certain and what is settled, and takes one unit more. At the end of the source all matches are certain.
-use Rattle.std.proofs.Common.{◌≡◌, ◌+◌, ◌++◌, [], ℕ, Bool, true, false, List, None, map, Bor, refl, ap, sym, ◌∙◌, subst, append-nil, arith}
+use Rattle.std.proofs.Common.{◌≡◌, ◌+◌, ◌++◌, [], ℕ, inl, inr, Bool, true, false, List, None, map, Bor, refl, ap, sym, ◌∙◌, subst, append-nil, arith}
 use Rattle.std.proofs.lemmas.Bool.{false≢true}
-use Rattle.std.proofs.lemmas.Result.{err_from_is_err_and, on_err_weaker, on_ok_weaker}
+use Rattle.std.proofs.lemmas.Result.{IfErr-weaker, err_from_is_err_and, on_ok_weaker}
 use Rattle.std.specs.Io.KnownBytes.{Appends}
 use Rattle.std.specs.declared.vec.Vec.{Vec}
 use Rattle.daachorse_model.specs.declared.Match.{Match}
@@ -13,11 +13,11 @@ use Rattle.daachorse_haystack.specs.Filters.{IsSoundFor}
 use Rattle.daachorse_haystack.specs.Readings.{MayReadAsRead}
 use Rattle.daachorse_search.specs.Views.{AutomatonView}
 use Rattle.daachorse_search.proofs.ReaderLaws.{may_read_first}
-use Rattle.daachorse_replacing.specs.Replaced.{AppendsBeginning}
+use Rattle.daachorse_replacing.specs.Replaced.{AppendsPart}
 use Rattle.daachorse_streams.specs.Advancing.{Advances, TakesUnits}
 use Rattle.daachorse_streams.specs.Streamed.{IsSameStream, LeftmostStreamed}
 use Rattle.daachorse_streams.proofs.ReadingLaws.{ready_as_it_is}
-use Rattle.daachorse_streams.proofs.ReplacingLaws.{Goes, goes-count, goes-first, goes-inside, goes-more, goes-out, goes-same, goes-settled, goes-to-end, stops-at-end, stops-here, stops-out, stops-out-at-end, stops-settled, streams-nothing}
+use Rattle.daachorse_streams.proofs.ReplacingLaws.{Goes, goes-count, goes-first, goes-inside, goes-more, goes-out, goes-same, goes-settled, goes-to-end, stops-at-end, stops-here, stops-nothing, stops-out, stops-out-at-end, stops-settled}
 use Rattle.daachorse_streams.proofs.replacing.replace_leftmost_skipping.Given as given
 use Rattle.daachorse_streams.proofs.replacing.replace_leftmost_skipping.Goals as goal
 use Rattle.daachorse_streams.proofs.replacing.replace_leftmost_skipping.Goals.{In_ok-held, In_ok-behind}
@@ -66,13 +66,13 @@ pub returns-in_err-stream-clause-beginning : goal.returns-in_err-stream-clause-b
 returns-in_err-stream-clause-beginning g c =
     let p = err_from_is_err_and c.from_residual.result c.from_residual.ensures.1 in
     let S = g.S.Iterator in let label = g.A.Unit.EdgeLabel in
-    rw p.1 (streams-nothing _ _ _ _ _ S.can_next S.next_gives S.remaining _ label.unit label.form label.width (g.A.Automaton.sees c.args.automaton).content c.args.folds _)
+    rw p.1 (stops-nothing _ _ _ _ _ S.can_next S.next_gives S.remaining _ label.unit label.form label.width (g.A.Automaton.sees c.args.automaton).content c.args.folds _ c.args.marks.now.longest _ p.2)
 
 pub returns-in_err-bytes-clause-beginning : goal.returns-in_err-bytes-clause-beginning
 returns-in_err-bytes-clause-beginning g c =
     let p = err_from_is_err_and c.from_residual-in_err-bytes.result c.from_residual-in_err-bytes.ensures.1 in
     let S = g.S.Iterator in let label = g.A.Unit.EdgeLabel in
-    rw p.1 (streams-nothing _ _ _ _ _ S.can_next S.next_gives S.remaining _ label.unit label.form label.width (g.A.Automaton.sees c.args.automaton).content c.args.folds _)
+    rw p.1 (stops-nothing _ _ _ _ _ S.can_next S.next_gives S.remaining _ label.unit label.form label.width (g.A.Automaton.sees c.args.automaton).content c.args.folds _ c.args.marks.now.longest _ p.2)
 
 pub units-init : goal.units-init
 units-init g c =
@@ -103,7 +103,7 @@ pub returns-in_err-replace_certain-clause-beginning : goal.returns-in_err-replac
 returns-in_err-replace_certain-clause-beginning g c =
     let p = err_from_is_err_and c.from_residual-in_err-replace_certain.result c.from_residual-in_err-replace_certain.ensures.1 in
     let was = c.units.invariant in
-    rw p.1 (stops-out was.goes _ _ (λ d. as_started g.A.Automaton.sees g.A.Unit.EdgeLabel.width {after = c.units.stream.read ++ d} was.automaton refl)
+    rw p.1 (stops-out was.goes c.args.marks.now.longest _ _ _ _ p.2 (λ d. as_started g.A.Automaton.sees g.A.Unit.EdgeLabel.width {after = c.units.stream.read ++ d} was.automaton refl)
     (λ d. c.in_err-replace_certain.ensures.beginning d (λ ended. absurd (false≢true (sym was.may.0 ∙ ended)))))
 
 pub returns-in_err-held-clause-beginning : goal.returns-in_err-held-clause-beginning
@@ -111,7 +111,7 @@ returns-in_err-held-clause-beginning g c =
     let p = err_from_is_err_and c.from_residual-in_err-held.result c.from_residual-in_err-held.ensures.1 in
     let was = c.units.invariant in let done = c.in_ok-replace_certain.ensures in
     let certain = certain_as_started g.A.Automaton.sees g.A.Unit.EdgeLabel.width (done.same.0 ∙ was.automaton) done.same.2 (done.settled.certain (done.same.3 ∙ was.may.0)) in
-    rw p.1 (stops-settled (goes-out was.goes refl done.whole) g.met.A.Unit.EdgeLabel.wide c.requires.marks.longest certain _ c.in_err-held.ensures.beginning)
+    rw p.1 (stops-settled (goes-out was.goes refl done.whole) g.met.A.Unit.EdgeLabel.wide c.requires.marks.longest certain _ _ _ p.2 c.in_err-held.ensures.part)
 
 pub overflow_add-held : goal.overflow_add-held
 overflow_add-held g c = omega (arith, goes-inside (goes-out c.units.invariant.goes refl c.in_ok-replace_certain.ensures.whole) g.met.A.Unit.AsciiFold.as_wide, c.in_ok-held.ensures.whole.inner)
@@ -134,8 +134,8 @@ advance-requires-clause-sound g c =
 
 pub returns-in-Some-clause-beginning : goal.returns-in-Some-clause-beginning
 returns-in-Some-clause-beginning g c =
-    let was = settled g (goal.at.returns-in-Some-clause-beginning g c).In_ok-held in
-    stops-here was.goes was.certain.0
+    let at = goal.at.returns-in-Some-clause-beginning g c in let was = settled g at.In_ok-held in let over = ends g at.In_ok-behind c.if-not-some.true in
+    stops-here was.goes was.certain.0 c.args.marks.now.longest _ c.in_ok-held.ensures.whole.few (inl (_, over.steps, sym c.into_failure.ensures.failure ∙ c.in-Some.is))
 
 pub replace_certain-requires-then-not-some-clause-read : goal.replace_certain-requires-then-not-some-clause-read
 replace_certain-requires-then-not-some-clause-read g c =
@@ -158,7 +158,7 @@ returns-in_err-replace_certain-2-clause-beginning g c =
     let at = goal.at.returns-in_err-replace_certain-2-clause-beginning g c in let was = ends g at.In_ok-behind c.if-not-some.true in let stood = goes-same (settled g at.In_ok-held).goes _ _ was.given was.held in
     let same = was.same in
     let all = as_started g.A.Automaton.sees g.A.Unit.EdgeLabel.width (c.end.ensures.automaton ∙ same.0 ∙ c.units.invariant.automaton) (append-nil _ ∙ c.end.ensures.read ∙ same.2) in
-    rw p.1 (stops-out-at-end stood (_, was.steps, sym c.into_failure.ensures.failure ∙ c.in_default.is) _ _ _ c.end.ensures.given all (c.in_err-replace_certain-2.ensures.beginning [] (λ ended. refl)))
+    rw p.1 (stops-out-at-end stood (_, was.steps, sym c.into_failure.ensures.failure ∙ c.in_default.is) c.args.marks.now.longest _ _ _ _ _ p.2 c.end.ensures.given all (c.in_err-replace_certain-2.ensures.beginning [] (λ ended. refl)))
 
 pub returns-then-not-some-clause-whole : goal.returns-then-not-some-clause-whole
 returns-then-not-some-clause-whole g c =
@@ -176,13 +176,13 @@ returns-then-not-some-clause-beginning g c =
     let same = was.same in let last = c.in_ok-replace_certain-2.ensures in
     let all = as_started g.A.Automaton.sees g.A.Unit.EdgeLabel.width (last.same.0 ∙ c.end.ensures.automaton ∙ same.0 ∙ c.units.invariant.automaton) (last.same.2 ∙ c.end.ensures.read ∙ same.2) in
     let goes = goes-out stood c.end.ensures.given last.whole in
-    on_err_weaker c.write_whole.result (λ part. stops-at-end goes (last.settled.all (last.same.3 ∙ c.end.ensures.ended) ∙ all) (_, was.steps, sym c.into_failure.ensures.failure ∙ c.in_default.is) _ (subst (AppendsBeginning _ _) c.deref.ensures.value part)) c.write_whole.ensures.beginning
+    IfErr-weaker c.write_whole.result _ _ (λ e part. stops-at-end goes (last.settled.all (last.same.3 ∙ c.end.ensures.ended) ∙ all) (_, was.steps, sym c.into_failure.ensures.failure ∙ c.in_default.is) c.args.marks.now.longest e _ (subst (AppendsPart _ _) c.deref.ensures.value part)) c.write_whole.ensures.part
 
 pub returns-in_err-behind-clause-beginning : goal.returns-in_err-behind-clause-beginning
 returns-in_err-behind-clause-beginning g c =
     let p = err_from_is_err_and c.from_residual-in_err-behind.result c.from_residual-in_err-behind.ensures.1 in
     let was = settled g (goal.at.returns-in_err-behind-clause-beginning g c).In_ok-held in
-    rw p.1 (stops-here was.goes was.certain.0)
+    rw p.1 (stops-here was.goes was.certain.0 c.args.marks.now.longest _ c.in_ok-held.ensures.whole.few (inr p.2))
 
 -- units were taken
 took : (g : given.Over) (c : In_ok-behind g) → c.in_ok-behind.some ≡ true

@@ -12,21 +12,23 @@ use Rattle.daachorse_model.specs.Units.{char_width}
 use Rattle.daachorse_rows.specs.Rows.{Rowed}
 use Rattle.daachorse_replacing.specs.ByKind.{non_overlapping}
 use Rattle.daachorse_replacing.specs.Streams.{HasNoLonger}
-use Rattle.daachorse_replacing.proofs.ReadLaws.{read-nothing, replaces-characters}
+use Rattle.daachorse_replacing.proofs.ReadLaws.{non_overlapping_apart, read-nothing, replaces-characters}
 use Rattle.daachorse_charwise_states.specs.Parts.{Parts, content}
 use Rattle.daachorse_charwise.specs.Accelerated.{rowed_states}
-use Rattle.daachorse_charwise.specs.Automata.{Automaton, dictionary_of}
+use Rattle.daachorse_charwise.specs.Automata.{Automaton, dictionary_of, kind_of}
 use Rattle.daachorse_charwise.proofs.charwise.accelerated.Accelerated.replace_standard.Goals as goal
 
 pub returns-in_err-longest : goal.returns-in_err-longest
 returns-in_err-longest g c =
     let p = err_from_is_err_and c.from_residual.result c.from_residual.ensures.1 in
-    rw p.1 (read-nothing _ g.O.Write.contents _ IsScalar encode_utf8_all _ _ _ _ refl)
+    let a = c.args.self.now.automaton in
+    rw p.1 (read-nothing _ g.O.Write.contents _ IsScalar encode_utf8_all _ _ _ _ _ refl (λ units. non_overlapping_apart (kind_of a) char_width (dictionary_of a) (as_read a.folds units)))
 
 pub returns-in_err-in_blocks : goal.returns-in_err-in_blocks
 returns-in_err-in_blocks g c =
     let p = err_from_is_err_and c.from_residual-in_err-in_blocks.result c.from_residual-in_err-in_blocks.ensures.1 in
-    rw p.1 (read-nothing _ g.O.Write.contents _ IsScalar encode_utf8_all _ _ _ _ refl)
+    let a = c.args.self.now.automaton in
+    rw p.1 (read-nothing _ g.O.Write.contents _ IsScalar encode_utf8_all _ _ _ _ _ refl (λ units. non_overlapping_apart (kind_of a) char_width (dictionary_of a) (as_read a.folds units)))
 
 pub replace_from-requires-clause-longest : goal.replace_from-requires-clause-longest
 replace_from-requires-clause-longest g c =
@@ -42,4 +44,4 @@ returns g c =
     let a = c.args.self.now.automaton in
     let by_kind : MatchKind → List ℕ → List (Match g.row.V.Denot) = λ k units. non_overlapping k char_width (dictionary_of a) (as_read a.folds units) in
     let same = ap (λ r. M r folds.result) c.standard.ensures ∙ ap (λ b. M (rowed_states c.args.self.now) b) option ∙ ap by_kind (sym c.requires.kind) in
-    replaces-characters _ g.O.Write.contents _ (reader_remaining g.R.Read.remaining) _ _ _ c.new-source.ensures.reader c.in_ok-in_blocks.ensures.reads.left same c.replace_from.result c.replace_from.ensures.whole c.replace_from.ensures.beginning
+    replaces-characters _ g.O.Write.contents _ (reader_remaining g.R.Read.remaining) _ _ _ c.new-source.ensures.reader c.in_ok-in_blocks.ensures.reads.left same _ c.replace_from.result c.replace_from.ensures.whole c.replace_from.ensures.beginning

@@ -5,6 +5,7 @@ use Rattle.daachorse_core.specs.Seen.{SeenUnits}
 use Rattle.daachorse_model.specs.declared.Match.{Match}
 use Rattle.daachorse_model.specs.Units.{size}
 use Rattle.daachorse_model.specs.Best.{IsBest}
+use Rattle.daachorse_model.specs.Prefixes.{IsKey}
 use Rattle.daachorse_model.specs.Leftmost.{leftmost, leftmost_from}
 use Rattle.daachorse_model.proofs.Suffixes.{size-append}
 use Rattle.daachorse_search.specs.BestScans.{HasNoLongerKey}
@@ -15,6 +16,8 @@ use Rattle.daachorse_streams.specs.declared.scan.Scan.{Scan}
 use Rattle.daachorse_streams.specs.declared.search.Search.{Search}
 use Rattle.daachorse_streams.specs.Scans.{IsPending, IsPendingSoFar, IsScan, depth}
 use Rattle.daachorse_streams.specs.Searching.{IsSearching, Stands, given_of, passed_over}
+use Rattle.daachorse_streams.specs.Streamed.{LooksAtKeys}
+use Rattle.daachorse_streams.proofs.LeastLaws.{looks-as, looks-first, looks-none}
 use Rattle.daachorse_streams.proofs.LeftmostCertain.{empty_front, gives_empty, gives_key, match_of}
 use Rattle.daachorse_streams.proofs.ScanLaws.{rest_is}
 use Rattle.daachorse_streams.proofs.SearchingLaws.{depth_at_first, given_is}
@@ -22,7 +25,7 @@ use Rattle.daachorse_streams.proofs.SearchingLaws.{depth_at_first, given_is}
 times_one_more : (m n : ℕ) → m * (n + 1) ≡ m * n + m
 times_one_more m n = grind arith
 
-one_over : (w ahead : List ℕ) → 0 < length w → passed_over true (w ++ ahead) ≡ 1
+one_over : (w ahead : List ℕ) → 0 < length w → length (passed_over true (w ++ ahead)) ≡ 1
 one_over [] ahead some = absurd (omega arith)
 one_over (u ∷ w) ahead some = refl
 
@@ -148,8 +151,18 @@ module _ {V : Type 0} (width : ℕ → ℕ) (wide : (u : ℕ) → 1 ≤ width u)
                         depth_at_first width view at.end scan [] begins,
                         length-append is.passed (p.front ++ p.key),
                         length-append p.front p.key,
-                        ap {B = ℕ} (λ b. passed_over b is.ahead) now.scans,
+                        ap {B = ℕ} (λ b. length (passed_over b is.ahead)) now.scans,
                       );
+                  least = λ d still.
+                      (let kept : List ℕ = is.passed ++ (p.front ++ p.key) in
+                      let none : (ahead : List ℕ) → passed_over s.skips ahead ≡ [] = λ ahead. ap (λ b. passed_over b ahead) now.scans in
+                      let before : is.passed ++ (is.w ++ passed_over s.skips (is.ahead ++ d)) ≡ kept ++ is.behind =
+                      ap (λ y. is.passed ++ (is.w ++ y)) (none (is.ahead ++ d))
+                      ∙ ap (λ y. is.passed ++ (y ++ [])) w_is
+                      ∙ simp (append_assoc, append-nil) in
+                      looks-as view (ap (λ y. y ++ d) (sym read))
+                      (sym (append-nil kept) ∙ ap (λ y. kept ++ y) (sym (none ((is.behind ++ is.ahead) ++ d))))
+                      (looks-first view (s.seen.since ++ d) kept is.behind s.turns (looks-as view refl before (is.least d still))));
                   room = is.room;
                   longest = is.longest;
                   fits = omega (arith, is.fits, ap (size width) read);
@@ -187,14 +200,14 @@ module _ {V : Type 0} (width : ℕ → ℕ) (wide : (u : ℕ) → 1 ≤ width u)
                 ∙ ap (λ y. is.gave ++ (cond s.after [] (y ∷ []) ++ rest)) (sym match_at_place)
                 ∙ sym (append_assoc is.gave (cond s.after [] (m ∷ [])) rest)
 
-            over_none : passed_over s.skips is.ahead ≡ 0
-            over_none = ap (λ b. passed_over b is.ahead) now.scans
+            over_none : length (passed_over s.skips is.ahead) ≡ 0
+            over_none = ap (λ b. length (passed_over b is.ahead)) now.scans
 
             more_given : (b : Bool) → length (is.gave ++ cond b [] (m ∷ [])) ≡ cond b s.seen.given (s.seen.given + 1)
             more_given true = ap length (append-nil is.gave) ∙ is.counted
             more_given false = omega (arith, length-append is.gave (m ∷ []), is.counted)
 
-            within : (n : ℕ) → HasNoLongerKey view.content n → (b : Bool) → s.after ≡ b → (k : ℕ) → length is.w ≡ k → s.turns + 0 + 0 ≤ 2 * (length is.passed + 0 + passed_over true (is.w ++ is.ahead)) + 4 * (n * seen.given)
+            within : (n : ℕ) → HasNoLongerKey view.content n → (b : Bool) → s.after ≡ b → (k : ℕ) → length is.w ≡ k → s.turns + 0 + 0 ≤ 2 * (length is.passed + 0 + length (passed_over true (is.w ++ is.ahead))) + 4 * (n * seen.given)
             within n bound true after zero none_read =
                 let same : seen.given ≡ s.seen.given = counts ∙ ap (λ b. cond b s.seen.given (s.seen.given + 1)) after in
                 omega (arith, is.most n bound, none_read, over_none, ap (λ k. n * k) same)
@@ -207,6 +220,50 @@ module _ {V : Type 0} (width : ℕ → ℕ) (wide : (u : ℕ) → 1 ≤ width u)
             within n bound false after (suc k) some_read =
                 let one : seen.given ≡ s.seen.given + 1 = counts ∙ ap (λ b. cond b s.seen.given (s.seen.given + 1)) after in
                 omega (arith, is.most n bound, over_none, p.near n bound, ap length no_front, one_over is.w is.ahead (omega (arith, some_read)), ap (λ k. n * k) one, times_one_more n s.seen.given)
+
+            -- The unit that is passed over was read, or no key begins at it.
+            least : (d : List ℕ) → (s.ended ≡ true → d ≡ [])
+                → LooksAtKeys view (s.seen.since ++ d) (is.passed ++ passed_over true ((is.w ++ is.ahead) ++ d)) s.turns
+            least d still = by is.w refl
+              where
+                was : LooksAtKeys view (s.seen.since ++ d) (is.passed ++ is.w) s.turns
+                was =
+                    looks-as view refl
+                    (ap (λ b. is.passed ++ (is.w ++ passed_over b (is.ahead ++ d))) now.scans ∙ ap (λ y. is.passed ++ y) (append-nil is.w))
+                    (is.least d still)
+
+                alone : (y : ℕ) (rest : List ℕ) → is.ahead ++ d ≡ y ∷ rest → is.w ≡ []
+                    → LooksAtKeys view (s.seen.since ++ d) (is.passed ++ y ∷ []) s.turns
+                alone y rest first none_read =
+                    let whole : text d ≡ y ∷ rest = ap (λ x. (x ++ is.ahead) ++ d) none_read ∙ first in
+                    let B : List ℕ → Type 0 = λ x. IsBest view.content x p.front p.key in
+                    let best : IsBest view.content (y ∷ rest) p.front p.key = subst B whole (stays d still) in
+                    let none_here : (k r : List ℕ) → IsKey view.content k → 0 < length k → y ∷ rest ≡ k ++ r → ⊥ =
+                    λ k r key some cut.
+                    (elim (best.least [] k r (record { parts = cut; key = key })) [
+                      | inl before ↦ omega (arith, before, ap length no_front)
+                      | inr same ↦ omega (arith, same.1, some, ap length no_key)
+                    ]) in
+                    let at_end : s.seen.since ++ d ≡ is.passed ++ y ∷ rest =
+                    ap (λ x. x ++ d) is.parts ∙ append_assoc is.passed (is.w ++ is.ahead) d ∙ ap (λ x. is.passed ++ x) whole in
+                    let read_so : is.passed ++ is.w ≡ is.passed = ap (λ x. is.passed ++ x) none_read ∙ append-nil is.passed in
+                    looks-as view (sym at_end) refl (looks-none view is.passed y rest s.turns none_here (looks-as view at_end read_so was))
+
+                by : (w : List ℕ) → is.w ≡ w
+                    → LooksAtKeys view (s.seen.since ++ d) (is.passed ++ passed_over true ((is.w ++ is.ahead) ++ d)) s.turns
+                by (x ∷ w) some =
+                    looks-as view refl (ap (λ y. is.passed ++ passed_over true ((y ++ is.ahead) ++ d)) (sym some))
+                    (looks-first view (s.seen.since ++ d) (is.passed ++ x ∷ []) w s.turns
+                    (looks-as view refl (ap (λ y. is.passed ++ y) some ∙ sym (append_assoc is.passed (x ∷ []) w)) was))
+                by [] none_read =
+                    looks-as view refl (ap (λ y. is.passed ++ passed_over true ((y ++ is.ahead) ++ d)) (sym none_read))
+                    (next (is.ahead ++ d) refl)
+                  where
+                    next : (x : List ℕ) → is.ahead ++ d ≡ x
+                        → LooksAtKeys view (s.seen.since ++ d) (is.passed ++ passed_over true (is.ahead ++ d)) s.turns
+                    next [] e =
+                        looks-as view refl (ap (λ y. is.passed ++ y) none_read ∙ ap (λ y. is.passed ++ passed_over true y) (sym e)) was
+                    next (y ∷ rest) e = looks-as view refl (ap (λ x. is.passed ++ passed_over true x) (sym e)) (alone y rest e none_read)
 
             searches : IsSearching width view unit (goes_on true false idle)
             searches = record {
@@ -230,6 +287,7 @@ module _ {V : Type 0} (width : ℕ → ℕ) (wide : (u : ℕ) → 1 ≤ width u)
               counted = more_given s.after ∙ sym counts;
               left = λ d still. ap (λ y. leftmost width view.content (y ++ d)) read ∙ gives d still;
               most = λ n bound. omega (arith, within n bound s.after refl (length is.w) refl, ap (depth view) is_idle, ap length empty);
+              least = λ d still. looks-as view (ap (λ y. y ++ d) (sym read)) refl (least d still);
               room = is.room;
               longest = is.longest;
               fits = omega (arith, is.fits, ap (size width) read);

@@ -1,5 +1,6 @@
 pub mod LeftmostCertain
 pub mod ScanLaws
+pub mod LeastLaws
 pub mod SearchingLaws
 pub mod GivingLaws
 pub mod StreamLaws

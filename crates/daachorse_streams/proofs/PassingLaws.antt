@@ -22,6 +22,7 @@ use Rattle.daachorse_streams.specs.declared.scan.Scan.{Scan}
 use Rattle.daachorse_streams.specs.declared.search.Search.{Search}
 use Rattle.daachorse_streams.specs.Scans.{IsPendingSoFar, IsScan}
 use Rattle.daachorse_streams.specs.Searching.{IsAtRoot, IsSearching, Keeps, PassesOver, Stands, TakesFront, given_of, passed_over}
+use Rattle.daachorse_streams.proofs.LeastLaws.{looks-as, looks-over}
 use Rattle.daachorse_streams.proofs.LeftmostCertain.{size_shorter}
 use Rattle.daachorse_streams.proofs.SearchingLaws.{depth_at_first, given_is}
 use Rattle.daachorse_streams.proofs.StreamLaws.{none_ahead}
@@ -271,9 +272,25 @@ module _ {V : Type 0} (width : ℕ → ℕ) (wide : (u : ℕ) → 1 ≤ width u)
                         depth_at_first width view (size width gone) scan [] begins,
                         length-append is.passed (is.w ++ over),
                         length-append is.w over,
-                        ap {B = ℕ} (λ b. passed_over b is.ahead) root.0,
+                        ap {B = ℕ} (λ b. length (passed_over b is.ahead)) root.0,
                         ap (λ k. m * k) counts,
                       );
+                  least = λ d still.
+                      (let none : (ahead : List ℕ) → passed_over s.skips ahead ≡ [] = λ ahead. ap (λ b. passed_over b ahead) root.0 in
+                      let d0 : List ℕ = over ++ (tail ++ d) in let begun : List ℕ = is.passed ++ is.w in
+                      let before : s.seen.since ≡ begun =
+                      is.parts
+                      ∙ ap (λ y. is.passed ++ (is.w ++ y)) (none_ahead width wide view unit is all)
+                      ∙ ap (λ y. is.passed ++ y) (append-nil is.w) in
+                      let text : begun ++ d0 ≡ t.seen.since ++ d =
+                      sym (ap (λ y. y ++ d) (read ∙ ap (λ y. y ++ front) before ∙ ap (λ y. begun ++ y) takes.parts) ∙ simp append_assoc) in
+                      let was =
+                      looks-as view (ap (λ y. y ++ d0) before)
+                      (ap (λ y. is.passed ++ (is.w ++ y)) (none (is.ahead ++ d0)) ∙ ap (λ y. is.passed ++ y) (append-nil is.w))
+                      (is.least d0 (λ ended. absurd (let bad : true ≡ false = sym ended ∙ open_yet in cc))) in
+                      looks-as view text
+                      (append_assoc is.passed is.w over ∙ sym (append-nil gone) ∙ ap (λ y. gone ++ y) (sym (none (tail ++ d))))
+                      (looks-over view begun over (tail ++ d) s.turns (none_far takes.parts takes.passes d) was));
                   room = omega (arith, is.room, capacity);
                   longest = subst C (sym capacity) is.longest;
                   fits = omega (arith, fits, ap (size width) read, size-append width s.seen.since front);

@@ -12,6 +12,7 @@ use Rattle.daachorse_search.specs.Views.{AutomatonView}
 use Rattle.daachorse_streams.specs.declared.scan.Scan.{Scan}
 use Rattle.daachorse_streams.specs.declared.search.Search.{Search}
 use Rattle.daachorse_streams.specs.Scans.{IsScan, depth}
+use Rattle.daachorse_streams.proofs.LeastLaws.{looks-as, looks-more}
 use Rattle.daachorse_streams.specs.Searching.{IsSearching, IsIdle, Stands, given_of, passed_over}
 
 -- the unit that is read next, behind those that were read, and the units behind it
@@ -107,11 +108,18 @@ module _ {V : Type 0} (width : ℕ → ℕ) (view : AutomatonView V) where
                   arith,
                   is.most m bound,
                   ap length stood.none_read,
-                  ap {B = ℕ} (λ b. passed_over b is.ahead) skips,
-                  ap {B = ℕ} (passed_over true) next.ahead_is,
+                  ap {B = ℕ} (λ b. length (passed_over b is.ahead)) skips,
+                  ap {B = ℕ} (λ y. length (passed_over true y)) next.ahead_is,
                   length-append is.passed (unit x ∷ []),
                   depth_at_first (s.scan.place + width (unit x)) scan [] begins,
                 );
+            least = λ d still.
+                looks-as view refl
+                (ap (λ b. is.passed ++ (is.w ++ passed_over b (is.ahead ++ d))) skips
+                ∙ ap (λ y. is.passed ++ (y ++ passed_over true (is.ahead ++ d))) stood.none_read
+                ∙ ap (λ y. is.passed ++ passed_over true (y ++ d)) next.ahead_is
+                ∙ sym (append-nil (is.passed ++ unit x ∷ [])))
+                (is.least d still);
             room = omega (arith, is.room, capacity);
             longest = subst C (sym capacity) is.longest;
             fits = is.fits;
@@ -120,8 +128,9 @@ module _ {V : Type 0} (width : ℕ → ℕ) (view : AutomatonView V) where
       -- a unit is read
       pub one_read : s.skips ≡ false → (ring : VecDeque U ALLOC) (walked : ℕ) (behind : List ℕ) → map unit ring.items ≡ behind ++ next.more → walked ≡ length behind → deque_capacity ring ≡ deque_capacity s.ring
           → (scan : Scan) → IsScan width view (size width is.passed) (is.w ++ unit x ∷ []) scan behind → (turns : ℕ) → turns + depth view scan ≤ s.turns + depth view s.scan + 2
+          → s.turns + cond (view.has_label (unit x)) 1 0 ≤ turns
           → IsSearching width view unit (record { ring = ring; walked = walked; scan = scan; skips = s.skips; after = s.after; ended = s.ended; turns = turns; seen = s.seen })
-      one_read scans ring walked behind front counts capacity scan on turns most =
+      one_read scans ring walked behind front counts capacity scan on turns most least =
           let C : ℕ → Type 0 = λ n. HasNoLonger width view.content n in
           let S : Bool → Type 0 = λ b. Stands width view b (size width is.passed) (is.w ++ unit x ∷ []) scan behind in
           let whole : is.w ++ is.ahead ≡ (is.w ++ unit x ∷ []) ++ next.more = ap (λ y. is.w ++ y) next.ahead_is ∙ sym (append_assoc is.w (unit x ∷ []) next.more) in
@@ -143,10 +152,21 @@ module _ {V : Type 0} (width : ℕ → ℕ) (view : AutomatonView V) where
                   arith,
                   is.most m bound,
                   most,
-                  ap {B = ℕ} (λ b. passed_over b is.ahead) scans,
-                  ap {B = ℕ} (λ b. passed_over b next.more) scans,
+                  ap {B = ℕ} (λ b. length (passed_over b is.ahead)) scans,
+                  ap {B = ℕ} (λ b. length (passed_over b next.more)) scans,
                   length-append is.w (unit x ∷ []),
                 );
+            least = λ d still.
+                (let u : ℕ = unit x in let read : List ℕ = is.passed ++ is.w in
+                let text : s.seen.since ++ d ≡ read ++ u ∷ (next.more ++ d) = ap (λ y. y ++ d) parts_next ∙ simp append_assoc in
+                let none : (ahead : List ℕ) → passed_over s.skips ahead ≡ [] = λ ahead. ap (λ b. passed_over b ahead) scans in
+                let before : is.passed ++ (is.w ++ passed_over s.skips (is.ahead ++ d)) ≡ read =
+                ap (λ y. is.passed ++ (is.w ++ y)) (none (is.ahead ++ d)) ∙ ap (λ y. is.passed ++ y) (append-nil is.w) in
+                let after : read ++ u ∷ [] ≡ is.passed ++ ((is.w ++ u ∷ []) ++ passed_over s.skips (next.more ++ d)) =
+                append_assoc is.passed is.w (u ∷ [])
+                ∙ ap (λ y. is.passed ++ y) (sym (append-nil (is.w ++ u ∷ [])) ∙ ap (λ y. (is.w ++ u ∷ []) ++ y) (sym (none (next.more ++ d)))) in
+                looks-as view (sym text) after
+                (looks-more view read u (next.more ++ d) s.turns turns least (looks-as view text before (is.least d still))));
             room = omega (arith, is.room, capacity);
             longest = subst C (sym capacity) is.longest;
             fits = is.fits;

@@ -23,16 +23,22 @@ use Rattle.daachorse_streams.specs.declared.search.Search.{Search}
 use Rattle.daachorse_model.specs.Prefixes.{HasChild}
 use Rattle.daachorse_streams.specs.Scans.{IsPending, IsPendingSoFar, IsScan}
 use Rattle.daachorse_streams.specs.Searching.{IsSearching, Stands, given_of, passed_over, waits}
+use Rattle.daachorse_streams.specs.Streamed.{LooksAtKeys}
 use Rattle.daachorse_streams.proofs.GivingLaws.{now}
+use Rattle.daachorse_streams.proofs.LeastLaws.{looks-as}
 use Rattle.daachorse_streams.proofs.LeftmostCertain.{begins_both, gives_none, goes_apart, length_size}
 use Rattle.daachorse_streams.proofs.SearchingLaws.{depth_at_first, given_is, place_is, walked_within}
 
-over_more : (b : Bool) (ahead : List ℕ) (u : ℕ) → passed_over b ahead ≤ passed_over b (ahead ++ u ∷ [])
+over_more : (b : Bool) (ahead : List ℕ) (u : ℕ) → length (passed_over b ahead) ≤ length (passed_over b (ahead ++ u ∷ []))
 over_more false ahead u = omega arith
 over_more true [] u = omega arith
 over_more true (x ∷ ahead) u = omega arith
 
-over_few : (b : Bool) (ahead : List ℕ) → passed_over b ahead ≤ length ahead
+over_none : (b : Bool) → passed_over b [] ≡ []
+over_none true = refl
+over_none false = refl
+
+over_few : (b : Bool) (ahead : List ℕ) → length (passed_over b ahead) ≤ length ahead
 over_few false ahead = omega arith
 over_few true [] = omega arith
 over_few true (x ∷ ahead) = omega arith
@@ -63,6 +69,7 @@ module _ {V : Type 0} (width : ℕ → ℕ) (wide : (u : ℕ) → 1 ≤ width u)
         counted = ap (λ (x : SeenUnits). x.given) (sym nothing);
         left = λ d still. ap (λ y. leftmost width view.content (y ++ d)) read;
         most = λ m bound. omega (arith, no_turns, depth_at_first width view 0 scan [] begins);
+        least = λ d still test tells. omega arith;
         room = room;
         longest = longest;
         fits = omega (arith, ap (size width) read);
@@ -143,6 +150,10 @@ module _ {V : Type 0} (width : ℕ → ℕ) (wide : (u : ℕ) → 1 ≤ width u)
                   ∙ is.left (u ∷ d) (λ over. absurd (let bad : true ≡ false = sym over ∙ open_yet in cc))
                   ∙ ap (λ y. is.gave ++ leftmost_from width view.content from (cond s.skips 1 0) s.after y) (sym (append_assoc (is.w ++ is.ahead) (u ∷ []) d) ∙ ap (λ y. y ++ d) (append_assoc is.w is.ahead (u ∷ [])));
               most = λ m bound. omega (arith, is.most m bound, over_more s.skips is.ahead u, ap (λ k. m * k) counts);
+              least = λ d still.
+                  looks-as view (sym (ap (λ y. y ++ d) read ∙ append_assoc s.seen.since (u ∷ []) d))
+                  (ap (λ y. is.passed ++ (is.w ++ passed_over s.skips y)) (sym (append_assoc is.ahead (u ∷ []) d)))
+                  (is.least (u ∷ d) (λ over. absurd (let bad : true ≡ false = sym over ∙ open_yet in cc)));
               room = omega (arith, is.room, capacity);
               longest = subst C (sym capacity) is.longest;
               fits = omega (arith, fits, ap (size width) read, size-push width s.seen.since u);
@@ -164,6 +175,7 @@ module _ {V : Type 0} (width : ℕ → ℕ) (wide : (u : ℕ) → 1 ≤ width u)
       counted = is.counted;
       left = λ d still. is.left d (λ _. still refl);
       most = is.most;
+      least = λ d still. is.least d (λ _. still refl);
       room = is.room;
       longest = is.longest;
       fits = is.fits;
@@ -246,3 +258,12 @@ module _ {V : Type 0} (width : ℕ → ℕ) (wide : (u : ℕ) → 1 ≤ width u)
     within m bound =
         let count : length (given_of width view.content s) ≡ s.seen.given = ap length (given_is width view unit is) ∙ is.counted in
         omega (arith, is.most m bound, over_few s.skips is.ahead, ap (λ k. m * k) count, ap length is.parts, length-append is.passed (is.w ++ is.ahead), length-append is.w is.ahead)
+
+    -- where nothing waits, all units were looked at
+    pub looks : waits s.scan.decided s.walked (length s.ring.items) ≡ false → LooksAtKeys view s.seen.since s.seen.since s.turns
+    looks quiet =
+        let none = none_ahead (none_waits quiet).1 in
+        looks-as view (append-nil s.seen.since)
+        (ap (λ y. is.passed ++ (is.w ++ passed_over s.skips (y ++ []))) none
+        ∙ ap (λ y. is.passed ++ (is.w ++ y)) (over_none s.skips ∙ sym none) ∙ sym is.parts)
+        (is.least [] (λ _. refl))

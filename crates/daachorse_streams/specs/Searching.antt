@@ -10,17 +10,18 @@ use Rattle.daachorse_search.specs.LeftmostSearches.{IsWithin}
 use Rattle.daachorse_search.specs.Views.{AutomatonView, IsLeftmostView}
 use Rattle.daachorse_streams.specs.declared.scan.Scan.{Scan}
 use Rattle.daachorse_streams.specs.declared.search.Search.{Search}
+use Rattle.daachorse_streams.specs.Streamed.{LooksAtKeys}
 use Rattle.daachorse_streams.specs.Scans.{IsScan, depth}
 
 -- a match may be certain: the best of the scan is decided, or units are left to read
 abbrev pub waits : Bool → ℕ → ℕ → Bool
 waits decided walked count = cond decided true (nat_lt walked count)
 
--- how many units the search passes over
-abbrev pub passed_over : Bool → List ℕ → ℕ
-passed_over false ahead = 0
-passed_over true [] = 0
-passed_over true (u ∷ ahead) = 1
+-- the unit that the search passes over, if there is one
+abbrev pub passed_over : Bool → List ℕ → List ℕ
+passed_over false ahead = []
+passed_over true [] = []
+passed_over true (u ∷ ahead) = u ∷ []
 
 -- the scan stands at the root, and nothing is pending
 abbrev pub IsAtRoot : {V U ALLOC : Type 0} → AutomatonView V → Search U ALLOC → Type 0
@@ -55,7 +56,9 @@ module _ {V : Type 0} (width : ℕ → ℕ) (view : AutomatonView V) where
       pub gave : List (Match V)
       pub counted : length gave ≡ s.seen.given
       pub left : (d : List ℕ) → (s.ended ≡ true → d ≡ []) → leftmost width view.content (s.seen.since ++ d) ≡ gave ++ leftmost_from width view.content (size width passed) (cond s.skips 1 0) s.after ((w ++ ahead) ++ d)
-      pub most : IsWithin width view.content (length passed + length w + passed_over s.skips ahead) s.after (s.turns + depth view s.scan) s.seen.given
+      pub most : IsWithin width view.content (length passed + length w + length (passed_over s.skips ahead)) s.after (s.turns + depth view s.scan) s.seen.given
+      pub least : (d : List ℕ) → (s.ended ≡ true → d ≡ [])
+          → LooksAtKeys view (s.seen.since ++ d) (passed ++ (w ++ passed_over s.skips (ahead ++ d))) s.turns
       pub room : 0 < deque_capacity s.ring
       pub longest : HasNoLonger width view.content (deque_capacity s.ring)
       pub fits : size width s.seen.since < 2 ^ 64

@@ -1,10 +1,13 @@
 -- A leftmost search that is given its haystack unit by unit, as its callers see it.
-use Rattle.std.specs.Prelude.{◌≡◌, ℕ, ◌<◌, Bool, true, false, List, ◌++◌}
+use Rattle.std.specs.Prelude.{◌≡◌, ℕ, ◌<◌, ◌≤◌, Bool, true, false, List, ◌++◌, length}
 use Rattle.daachorse_model.specs.declared.Match.{Match}
 use Rattle.daachorse_model.specs.Certain.{AreCertain}
 use Rattle.daachorse_model.specs.Dictionary.{Dictionary}
 use Rattle.daachorse_model.specs.Leftmost.{leftmost}
+use Rattle.daachorse_model.specs.Prefixes.{IsKey}
 use Rattle.daachorse_model.specs.Units.{size}
+use Rattle.daachorse_haystack.specs.Filters.{count_passing}
+use Rattle.daachorse_search.specs.Views.{AutomatonView}
 
 pub record LeftmostStreamed (V A : Type 0) : Type 0 where
   pub automaton : A
@@ -39,3 +42,13 @@ pub record HasSkipped {V A : Type 0} (width : ℕ → ℕ) (K : Dictionary V) (o
   pub ends : bytes ≡ size width front
   pub read : new.read ≡ old.read ++ front
   pub clear : 0 < bytes → leftmost width K new.read ≡ old.given
+
+-- a test says yes only where a key that is not empty is at the beginning of what is still to come
+abbrev pub TellsKeys : {V : Type 0} → Dictionary V → (List ℕ → Bool) → Type 0
+TellsKeys K test =
+    (w : List ℕ) → test w ≡ true → (key : List ℕ) × (rest : List ℕ) × IsKey K key × (0 < length key) × (w ≡ key ++ rest)
+
+-- Each of the first units with a label at which such a key begins took a turn: no test tells more of them than there are turns.
+abbrev pub LooksAtKeys : {V : Type 0} → AutomatonView V → List ℕ → List ℕ → ℕ → Type 0
+LooksAtKeys view haystack first turns =
+    (test : List ℕ → Bool) → TellsKeys view.content test → count_passing test view.has_label haystack first ≤ turns

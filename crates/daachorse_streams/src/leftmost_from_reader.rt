@@ -4,6 +4,7 @@ ghost use Rattle.std.specs.Prelude.{◌≡◌, ◌+◌, ◌*◌, ◌≤◌, ℕ,
 ghost use Rattle.daachorse_haystack.specs.Filters.{IsSoundFor};
 ghost use Rattle.daachorse_search.specs.BestScans.{HasNoLongerKey};
 ghost use Rattle.daachorse_streams.specs.LeftmostReading.{MayReadOn, ReadsOn};
+ghost use Rattle.daachorse_streams.specs.Streamed.{LooksAtKeys};
 
 use crate::block_source::{BlockSource, BlockUnit};
 use crate::keep::Unkept;
@@ -96,8 +97,9 @@ where
     /// Does nothing. Its contract bounds the turns.
     #[inline(always)]
     pub fn turns_are_bounded(&self)
-        ensures { IfSome self.now (λ s. (m : ℕ) → HasNoLongerKey (A.sees s.stream.automaton).content m
+        ensures most { IfSome self.now (λ s. (m : ℕ) → HasNoLongerKey (A.sees s.stream.automaton).content m
             → s.stream.turns ≤ 2 * length s.stream.read + 4 * (m * length s.stream.given)) }
+        ensures least { IfSome self.now (λ s. s.stream.waiting ≡ false → LooksAtKeys (A.sees s.stream.automaton) s.stream.read s.stream.read s.stream.turns) }
     {
         if let Some(stream) = &self.stream {
             stream.turns_are_bounded();

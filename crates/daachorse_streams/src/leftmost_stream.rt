@@ -10,7 +10,7 @@ ghost use Rattle.daachorse_search.specs.BestScans.{HasNoLongerKey};
 ghost use Rattle.daachorse_search.specs.Views.{IsLeftmostView};
 ghost use Rattle.daachorse_streams.specs.Marked.{BeginsStreaming, IsMarkedFor};
 ghost use Rattle.daachorse_streams.specs.Standings.{IsLeftmostStanding, streamed_by};
-ghost use Rattle.daachorse_streams.specs.Streamed.{HasSkipped, IsSameStream, IsSettled};
+ghost use Rattle.daachorse_streams.specs.Streamed.{HasSkipped, IsSameStream, IsSettled, LooksAtKeys};
 
 use crate::leftmost_standing::LeftmostStanding;
 use crate::scan::begin;
@@ -263,8 +263,9 @@ impl<'a, V: Copy, A: Automaton<V>, ALLOC: Allocator> LeftmostStream<'a, V, A, AL
     /// Does nothing. Its contract bounds the turns.
     #[inline(always)]
     pub fn turns_are_bounded(&self)
-        ensures { (m : ℕ) → HasNoLongerKey (A.sees self.now.automaton).content m
+        ensures most { (m : ℕ) → HasNoLongerKey (A.sees self.now.automaton).content m
             → self.now.turns ≤ 2 * length self.now.read + 4 * (m * length self.now.given) }
+        ensures least { self.now.waiting ≡ false → LooksAtKeys (A.sees self.now.automaton) self.now.read self.now.read self.now.turns }
     {
         let _ = &self.folds;
     }

@@ -88,6 +88,7 @@ pub(crate) fn advance<V: Copy, A: Automaton<V>>(
     ensures scan { (from : ℕ) (w behind : List ℕ) → IsScan A.Unit.width (A.sees automaton.now) from w scan.old behind
         → IsScan A.Unit.width (A.sees automaton.now) from (w ++ A.Unit.unit unit ∷ []) scan.new (if result then behind ++ A.Unit.unit unit ∷ [] else []) }
     ensures most { turns.new + depth (A.sees automaton.now) scan.new ≤ turns.old + depth (A.sees automaton.now) scan.old + 2 }
+    ensures least { turns.old + (if (A.sees automaton.now).has_label (A.Unit.unit unit) then 1 else 0) ≤ turns.new }
 {
     let (state, position) = step(automaton, scan.state, unit, turns);
     scan.state = state;

@@ -33,7 +33,7 @@ returns-then-not-kept-clause-stands g c =
     let following = next unit.width view unit.unit is within x c.index.ensures in
     let front : map unit.unit c.drop_front.new.ring.items ≡ following.more =
     ap (map unit.unit) c.drop_front.ensures.items ∙ ap (λ n. map unit.unit (drop (n + 1) s.ring.items)) is.walked ∙ following.rest_is in
-    one_read unit.width view unit.unit is within x c.index.ensures c.if-search.false c.drop_front.new.ring 0 [] front refl c.drop_front.ensures.capacity c.advance-kept.new.scan on c.advance-kept.new.turns c.advance-kept.ensures.most
+    one_read unit.width view unit.unit is within x c.index.ensures c.if-search.false c.drop_front.new.ring 0 [] front refl c.drop_front.ensures.capacity c.advance-kept.new.scan on c.advance-kept.new.turns c.advance-kept.ensures.most c.advance-kept.ensures.least
 
 pub returns-else-not-kept-clause-stands : goal.returns-else-not-kept-clause-stands
 returns-else-not-kept-clause-stands g c =
@@ -45,4 +45,4 @@ returns-else-not-kept-clause-stands g c =
     let following = next unit.width view unit.unit is within x c.index.ensures in
     let front : map unit.unit s.ring.items ≡ (is.behind ++ unit.unit x ∷ []) ++ following.more =
     is.ring ∙ ap (λ y. is.behind ++ y) following.ahead_is ∙ sym (append_assoc is.behind (unit.unit x ∷ []) following.more) in
-    one_read unit.width view unit.unit is within x c.index.ensures c.if-search.false s.ring (s.walked + 1) (is.behind ++ unit.unit x ∷ []) front (omega (arith, is.walked, length-append is.behind (unit.unit x ∷ []))) refl c.advance-kept.new.scan on c.advance-kept.new.turns c.advance-kept.ensures.most
+    one_read unit.width view unit.unit is within x c.index.ensures c.if-search.false s.ring (s.walked + 1) (is.behind ++ unit.unit x ∷ []) front (omega (arith, is.walked, length-append is.behind (unit.unit x ∷ []))) refl c.advance-kept.new.scan on c.advance-kept.new.turns c.advance-kept.ensures.most c.advance-kept.ensures.least

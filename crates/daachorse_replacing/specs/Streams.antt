@@ -17,6 +17,11 @@ use Rattle.daachorse_replacing.specs.ReplacedWith.{IsReplaced, IsReplacedFrom, I
 abbrev pub HasNoLonger : {V : Type 0} → (ℕ → ℕ) → Dictionary V → ℕ → Type 0
 HasNoLonger width K longest = (w : List ℕ) → K w ≢ [] → size width w ≤ longest
 
+-- the most bytes that a key takes, or 0 where there is none
+pub record IsLongest {V : Type 0} (width : ℕ → ℕ) (K : Dictionary V) (longest : ℕ) : Type 0 where
+  pub none_longer : HasNoLonger width K longest
+  pub some : (longest ≡ 0) ⊎ ((w : List ℕ) × (K w ≢ []) × (size width w ≡ longest))
+
 -- the match is within these bytes, at their end
 abbrev pub EndsWithin : {V : Type 0} → List ℕ → Match V → Type 0
 EndsWithin held m = (m.start ≤ m.end) × (m.end ≤ m.start + length held)

@@ -164,7 +164,6 @@ module _ {V : Type 0} (width : ℕ → ℕ) (wide : (u : ℕ) → 1 ≤ width u)
                       (sym (append-nil kept) ∙ ap (λ y. kept ++ y) (sym (none ((is.behind ++ is.ahead) ++ d))))
                       (looks-first view (s.seen.since ++ d) kept is.behind s.turns (looks-as view refl before (is.least d still))));
                   room = is.room;
-                  longest = is.longest;
                   fits = omega (arith, is.fits, ap (size width) read);
                 }
 
@@ -289,6 +288,5 @@ module _ {V : Type 0} (width : ℕ → ℕ) (wide : (u : ℕ) → 1 ≤ width u)
               most = λ n bound. omega (arith, within n bound s.after refl (length is.w) refl, ap (depth view) is_idle, ap length empty);
               least = λ d still. looks-as view (ap (λ y. y ++ d) (sym read)) refl (least d still);
               room = is.room;
-              longest = is.longest;
               fits = omega (arith, is.fits, ap (size width) read);
             }

@@ -13,7 +13,6 @@ use Rattle.daachorse_model.proofs.BestMatches.{leftmost_from-clear, leftmost_fro
 use Rattle.daachorse_model.proofs.Lists.{nil_of}
 use Rattle.daachorse_model.proofs.Occurrences.{occurs_more, split_after}
 use Rattle.daachorse_model.proofs.Suffixes.{le_or_lt, size-append, size-push}
-use Rattle.daachorse_replacing.specs.Streams.{HasNoLonger}
 use Rattle.daachorse_search.specs.Views.{AutomatonView}
 use Rattle.daachorse_search.proofs.BestScanLaws.{none_starts}
 use Rattle.daachorse_search.proofs.LeftmostLaws.{nil_from_size}
@@ -22,10 +21,11 @@ use Rattle.daachorse_streams.specs.declared.scan.Scan.{Scan}
 use Rattle.daachorse_streams.specs.declared.search.Search.{Search}
 use Rattle.daachorse_streams.specs.Scans.{IsPendingSoFar, IsScan}
 use Rattle.daachorse_streams.specs.Searching.{IsAtRoot, IsSearching, Keeps, PassesOver, Stands, TakesFront, given_of, passed_over}
+use Rattle.daachorse_streams.specs.Streamed.{IsRoomFor}
 use Rattle.daachorse_streams.proofs.LeastLaws.{looks-as, looks-over}
 use Rattle.daachorse_streams.proofs.LeftmostCertain.{size_shorter}
 use Rattle.daachorse_streams.proofs.SearchingLaws.{depth_at_first, given_is}
-use Rattle.daachorse_streams.proofs.StreamLaws.{none_ahead}
+use Rattle.daachorse_streams.proofs.StreamLaws.{none_ahead, room_enough}
 
 -- of the units in `front`, which come before `back`, those in `done` were taken off a block, and the others, with so many bytes, are the first of what is left
 pub record IsTaken (width : ℕ → ℕ) (front back left : List ℕ) (bytes : ℕ) (done : List ℕ) : Type 0 where
@@ -179,7 +179,8 @@ module _ {V : Type 0} (width : ℕ → ℕ) (wide : (u : ℕ) → 1 ≤ width u)
                 let enough = passes.far a u r cut in
                 let text : ((u ∷ r) ++ tail) ++ d ≡ k ++ b = append_assoc (u ∷ r) tail d ∙ sym rest in
                 elim (le_or_lt (length k) (length ((u ∷ r) ++ tail))) [
-                  | inr longer ↦ omega (arith, enough, is.longest k o.key, size_shorter width wide ((u ∷ r) ++ tail) d k b text longer)
+                  | inr longer ↦
+                      omega (arith, enough, room_enough is.room k o.key, size_shorter width wide ((u ∷ r) ++ tail) d k b text longer)
                   | inl fits ↦
                       let q = split_after k b ((u ∷ r) ++ tail) d (sym text) fits in
                       let whole : front ≡ a ++ (k ++ q.0) = parts ∙ ap (λ y. y ++ tail) cut ∙ append_assoc a (u ∷ r) tail ∙ ap (λ y. a ++ y) q.1 in
@@ -244,7 +245,7 @@ module _ {V : Type 0} (width : ℕ → ℕ) (wide : (u : ℕ) → 1 ≤ width u)
 
             searches : IsSearching width view unit (record { ring = t.ring; walked = s.walked; scan = scan; skips = s.skips; after = s.after; ended = s.ended; turns = s.turns; seen = t.seen })
             searches =
-                let C : ℕ → Type 0 = λ n. HasNoLonger width view.content n in
+                let C : ℕ → Type 0 = λ n. IsRoomFor width view.content n in
                 let S : Bool → Type 0 = λ b. Stands width view b (size width gone) [] scan [] in
                 record {
                   kind = is.kind;
@@ -291,7 +292,6 @@ module _ {V : Type 0} (width : ℕ → ℕ) (wide : (u : ℕ) → 1 ≤ width u)
                       looks-as view text
                       (append_assoc is.passed is.w over ∙ sym (append-nil gone) ∙ ap (λ y. gone ++ y) (sym (none (tail ++ d))))
                       (looks-over view begun over (tail ++ d) s.turns (none_far takes.parts takes.passes d) was));
-                  room = omega (arith, is.room, capacity);
-                  longest = subst C (sym capacity) is.longest;
+                  room = subst C (sym capacity) is.room;
                   fits = omega (arith, fits, ap (size width) read, size-append width s.seen.since front);
                 }

@@ -7,11 +7,11 @@ use Rattle.daachorse_model.specs.declared.Match.{Match}
 use Rattle.daachorse_model.specs.Units.{size}
 use Rattle.daachorse_model.specs.Leftmost.{leftmost, leftmost_from}
 use Rattle.daachorse_model.proofs.Suffixes.{size-append, size-push, IsSuffix-length}
-use Rattle.daachorse_replacing.specs.Streams.{HasNoLonger}
 use Rattle.daachorse_search.specs.Views.{AutomatonView}
 use Rattle.daachorse_streams.specs.declared.scan.Scan.{Scan}
 use Rattle.daachorse_streams.specs.declared.search.Search.{Search}
 use Rattle.daachorse_streams.specs.Scans.{IsScan, depth}
+use Rattle.daachorse_streams.specs.Streamed.{IsRoomFor}
 use Rattle.daachorse_streams.proofs.LeastLaws.{looks-as, looks-more}
 use Rattle.daachorse_streams.specs.Searching.{IsSearching, IsIdle, Stands, given_of, passed_over}
 
@@ -83,7 +83,7 @@ module _ {V : Type 0} (width : ℕ → ℕ) (view : AutomatonView V) where
           let stood : IsIdle width view (size width is.passed) is.w s.scan is.behind = subst S skips is.stands in
           let place : s.scan.place + width (unit x) ≡ size width (is.passed ++ unit x ∷ []) = omega (arith, stood.place, size-push width is.passed (unit x)) in
           let front : map unit ring.items ≡ next.more = ap (map unit) items ∙ ap (λ b. map unit (drop (length b + 1) s.ring.items)) (sym stood.none_behind) ∙ next.rest_is in
-          let C : ℕ → Type 0 = λ n. HasNoLonger width view.content n in
+          let C : ℕ → Type 0 = λ n. IsRoomFor width view.content n in
           let B : ℕ → Type 0 = λ n. IsScan width view n [] scan [] in
           record {
             kind = is.kind;
@@ -120,8 +120,7 @@ module _ {V : Type 0} (width : ℕ → ℕ) (view : AutomatonView V) where
                 ∙ ap (λ y. is.passed ++ passed_over true (y ++ d)) next.ahead_is
                 ∙ sym (append-nil (is.passed ++ unit x ∷ [])))
                 (is.least d still);
-            room = omega (arith, is.room, capacity);
-            longest = subst C (sym capacity) is.longest;
+            room = subst C (sym capacity) is.room;
             fits = is.fits;
           }
 
@@ -131,7 +130,7 @@ module _ {V : Type 0} (width : ℕ → ℕ) (view : AutomatonView V) where
           → s.turns + cond (view.has_label (unit x)) 1 0 ≤ turns
           → IsSearching width view unit (record { ring = ring; walked = walked; scan = scan; skips = s.skips; after = s.after; ended = s.ended; turns = turns; seen = s.seen })
       one_read scans ring walked behind front counts capacity scan on turns most least =
-          let C : ℕ → Type 0 = λ n. HasNoLonger width view.content n in
+          let C : ℕ → Type 0 = λ n. IsRoomFor width view.content n in
           let S : Bool → Type 0 = λ b. Stands width view b (size width is.passed) (is.w ++ unit x ∷ []) scan behind in
           let whole : is.w ++ is.ahead ≡ (is.w ++ unit x ∷ []) ++ next.more = ap (λ y. is.w ++ y) next.ahead_is ∙ sym (append_assoc is.w (unit x ∷ []) next.more) in
           record {
@@ -167,7 +166,6 @@ module _ {V : Type 0} (width : ℕ → ℕ) (view : AutomatonView V) where
                 ∙ ap (λ y. is.passed ++ y) (sym (append-nil (is.w ++ u ∷ [])) ∙ ap (λ y. (is.w ++ u ∷ []) ++ y) (sym (none (next.more ++ d)))) in
                 looks-as view (sym text) after
                 (looks-more view read u (next.more ++ d) s.turns turns least (looks-as view text before (is.least d still))));
-            room = omega (arith, is.room, capacity);
-            longest = subst C (sym capacity) is.longest;
+            room = subst C (sym capacity) is.room;
             fits = is.fits;
           }

@@ -23,7 +23,7 @@ use Rattle.daachorse_streams.specs.declared.search.Search.{Search}
 use Rattle.daachorse_model.specs.Prefixes.{HasChild}
 use Rattle.daachorse_streams.specs.Scans.{IsPending, IsPendingSoFar, IsScan}
 use Rattle.daachorse_streams.specs.Searching.{IsSearching, Stands, given_of, passed_over, waits}
-use Rattle.daachorse_streams.specs.Streamed.{LooksAtKeys}
+use Rattle.daachorse_streams.specs.Streamed.{IsRoomFor, LooksAtKeys}
 use Rattle.daachorse_streams.proofs.GivingLaws.{now}
 use Rattle.daachorse_streams.proofs.LeastLaws.{looks-as}
 use Rattle.daachorse_streams.proofs.LeftmostCertain.{begins_both, gives_none, goes_apart, length_size}
@@ -43,6 +43,14 @@ over_few false ahead = omega arith
 over_few true [] = omega arith
 over_few true (x ∷ ahead) = omega arith
 
+module _ {V : Type 0} {width : ℕ → ℕ} {K : Dictionary V} {room : ℕ} (is : IsRoomFor width K room) where
+  pub room_some : 0 < room
+  room_some = omega (arith, is.2)
+
+  -- no key takes more bytes than there is room for units
+  pub room_enough : HasNoLonger width K room
+  room_enough w key = omega (arith, is.1.none_longer w key, is.2)
+
 module _ (width : ℕ → ℕ) (wide : (u : ℕ) → 1 ≤ width u) where
   -- a key has at most as many units as bytes
   pub units_within : {V : Type 0} {K : Dictionary V} {longest : ℕ} → HasNoLonger width K longest → HasNoLongerKey K longest
@@ -50,10 +58,10 @@ module _ (width : ℕ → ℕ) (wide : (u : ℕ) → 1 ≤ width u) where
 
 module _ {V : Type 0} (width : ℕ → ℕ) (wide : (u : ℕ) → 1 ≤ width u) (view : AutomatonView V) {U ALLOC : Type 0} (unit : U → ℕ) where
   -- nothing was read yet
-  pub begun : IsLeftmostView view → (ring : VecDeque U ALLOC) → ring.items ≡ [] → 0 < deque_capacity ring → HasNoLonger width view.content (deque_capacity ring)
+  pub begun : IsLeftmostView view → (ring : VecDeque U ALLOC) → ring.items ≡ [] → IsRoomFor width view.content (deque_capacity ring)
       → (scan : Scan) → IsScan width view 0 [] scan [] → (turns : ℕ) → turns ≡ 0 → (seen : SeenUnits) → seen ≡ unread
       → IsSearching width view unit (record { ring = ring; walked = 0; scan = scan; skips = false; after = false; ended = false; turns = turns; seen = seen })
-  begun kind ring none room longest scan begins turns no_turns seen nothing =
+  begun kind ring none room scan begins turns no_turns seen nothing =
       let read : seen.since ≡ [] = ap (λ (x : SeenUnits). x.since) nothing in
       record {
         kind = kind;
@@ -71,7 +79,6 @@ module _ {V : Type 0} (width : ℕ → ℕ) (wide : (u : ℕ) → 1 ≤ width u)
         most = λ m bound. omega (arith, no_turns, depth_at_first width view 0 scan [] begins);
         least = λ d still test tells. omega arith;
         room = room;
-        longest = longest;
         fits = omega (arith, ap (size width) read);
       }
 
@@ -109,14 +116,20 @@ module _ {V : Type 0} (width : ℕ → ℕ) (wide : (u : ℕ) → 1 ≤ width u)
 
             short : HasChild view.content t → length is.behind < deque_capacity s.ring
             short (u, inl empty) = absurd (omega (arith, ap length empty, length-append t (u ∷ [])))
-            short (u, inr (x, key)) = omega (arith, near, units_within width wide is.longest ((t ++ u ∷ []) ++ x) key, length-append (t ++ u ∷ []) x, length-append t (u ∷ []))
+            short (u, inr (x, key)) = omega (
+              arith,
+              near,
+              units_within width wide (room_enough is.room) ((t ++ u ∷ []) ++ x) key,
+              length-append (t ++ u ∷ []) x,
+              length-append t (u ∷ []),
+            )
 
         best_behind : (best : Option Pending) → IsSteady view.content is.w (view.text s.scan.state) → IsPendingSoFar width view from is.w (view.text s.scan.state) best false is.behind → length is.behind < deque_capacity s.ring
-        best_behind None steady pending = omega (arith, is.room, ap length pending.2)
+        best_behind None steady pending = omega (arith, room_some is.room, ap length pending.2)
         best_behind (Some at) steady pending = some_behind (view.text s.scan.state) at steady pending
 
         by : (b : Bool) → Stands width view b from is.w s.scan is.behind → length is.behind < deque_capacity s.ring
-        by true idle = omega (arith, is.room, ap length idle.none_behind)
+        by true idle = omega (arith, room_some is.room, ap length idle.none_behind)
         by false scan =
             let P : Bool → Type 0 = λ d. IsPendingSoFar width view from is.w (view.text s.scan.state) s.scan.best d is.behind in
             best_behind s.scan.best (scan.steady open_yet) (subst P open_yet scan.pending)
@@ -131,7 +144,7 @@ module _ {V : Type 0} (width : ℕ → ℕ) (wide : (u : ℕ) → 1 ≤ width u)
         searches : IsSearching width view unit (record { ring = ring; walked = s.walked; scan = s.scan; skips = s.skips; after = s.after; ended = s.ended; turns = s.turns; seen = seen })
         searches =
             let u : ℕ = unit x in
-            let C : ℕ → Type 0 = λ n. HasNoLonger width view.content n in
+            let C : ℕ → Type 0 = λ n. IsRoomFor width view.content n in
             record {
               kind = is.kind;
               passed = is.passed;
@@ -154,8 +167,7 @@ module _ {V : Type 0} (width : ℕ → ℕ) (wide : (u : ℕ) → 1 ≤ width u)
                   looks-as view (sym (ap (λ y. y ++ d) read ∙ append_assoc s.seen.since (u ∷ []) d))
                   (ap (λ y. is.passed ++ (is.w ++ passed_over s.skips y)) (sym (append_assoc is.ahead (u ∷ []) d)))
                   (is.least (u ∷ d) (λ over. absurd (let bad : true ≡ false = sym over ∙ open_yet in cc)));
-              room = omega (arith, is.room, capacity);
-              longest = subst C (sym capacity) is.longest;
+              room = subst C (sym capacity) is.room;
               fits = omega (arith, fits, ap (size width) read, size-push width s.seen.since u);
             }
 
@@ -177,7 +189,6 @@ module _ {V : Type 0} (width : ℕ → ℕ) (wide : (u : ℕ) → 1 ≤ width u)
       most = is.most;
       least = λ d still. is.least d (λ _. still refl);
       room = is.room;
-      longest = is.longest;
       fits = is.fits;
     }
 

@@ -5,12 +5,11 @@ use Rattle.daachorse_model.specs.declared.Match.{Match}
 use Rattle.daachorse_model.specs.Units.{size}
 use Rattle.daachorse_model.specs.Dictionary.{Dictionary}
 use Rattle.daachorse_model.specs.Leftmost.{leftmost, leftmost_from}
-use Rattle.daachorse_replacing.specs.Streams.{HasNoLonger}
 use Rattle.daachorse_search.specs.LeftmostSearches.{IsWithin}
 use Rattle.daachorse_search.specs.Views.{AutomatonView, IsLeftmostView}
 use Rattle.daachorse_streams.specs.declared.scan.Scan.{Scan}
 use Rattle.daachorse_streams.specs.declared.search.Search.{Search}
-use Rattle.daachorse_streams.specs.Streamed.{LooksAtKeys}
+use Rattle.daachorse_streams.specs.Streamed.{IsRoomFor, LooksAtKeys}
 use Rattle.daachorse_streams.specs.Scans.{IsScan, depth}
 
 -- a match may be certain: the best of the scan is decided, or units are left to read
@@ -59,8 +58,7 @@ module _ {V : Type 0} (width : ℕ → ℕ) (view : AutomatonView V) where
       pub most : IsWithin width view.content (length passed + length w + length (passed_over s.skips ahead)) s.after (s.turns + depth view s.scan) s.seen.given
       pub least : (d : List ℕ) → (s.ended ≡ true → d ≡ [])
           → LooksAtKeys view (s.seen.since ++ d) (passed ++ (w ++ passed_over s.skips (ahead ++ d))) s.turns
-      pub room : 0 < deque_capacity s.ring
-      pub longest : HasNoLonger width view.content (deque_capacity s.ring)
+      pub room : IsRoomFor width view.content (deque_capacity s.ring)
       pub fits : size width s.seen.since < 2 ^ 64
 
 -- the units in `front` are left to read, behind those that were

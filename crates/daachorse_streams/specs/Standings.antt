@@ -1,5 +1,6 @@
 -- Where a leftmost stream stands, apart from its automaton.
 use Rattle.std.specs.Prelude.{◌≡◌, ℕ, Bool, length}
+use Rattle.std.specs.VecDeque.{deque_capacity}
 use Rattle.daachorse_model.specs.Units.{size}
 use Rattle.daachorse_search.specs.Views.{AutomatonView}
 use Rattle.daachorse_streams.specs.declared.leftmost_standing.LeftmostStanding.{LeftmostStanding}
@@ -17,6 +18,7 @@ module _ {V A U ALLOC : Type 0} (width : ℕ → ℕ) (sees : A → AutomatonVie
     given = given_of width (sees a).content s;
     waiting = waits s.scan.decided s.walked (length s.ring.items);
     ended = s.ended;
+    room = deque_capacity s.ring;
     turns = s.turns;
   }
 

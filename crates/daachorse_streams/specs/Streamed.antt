@@ -1,5 +1,5 @@
 -- A leftmost search that is given its haystack unit by unit, as its callers see it.
-use Rattle.std.specs.Prelude.{◌≡◌, ℕ, ◌<◌, ◌≤◌, Bool, true, false, List, ◌++◌, length}
+use Rattle.std.specs.Prelude.{◌≡◌, ℕ, ◌<◌, ◌≤◌, Bool, true, false, List, ◌++◌, length, max}
 use Rattle.daachorse_model.specs.declared.Match.{Match}
 use Rattle.daachorse_model.specs.Certain.{AreCertain}
 use Rattle.daachorse_model.specs.Dictionary.{Dictionary}
@@ -7,6 +7,7 @@ use Rattle.daachorse_model.specs.Leftmost.{leftmost}
 use Rattle.daachorse_model.specs.Prefixes.{IsKey}
 use Rattle.daachorse_model.specs.Units.{size}
 use Rattle.daachorse_haystack.specs.Filters.{count_passing}
+use Rattle.daachorse_replacing.specs.Streams.{IsLongest}
 use Rattle.daachorse_search.specs.Views.{AutomatonView}
 
 pub record LeftmostStreamed (V A : Type 0) : Type 0 where
@@ -21,7 +22,13 @@ pub record LeftmostStreamed (V A : Type 0) : Type 0 where
   pub waiting : Bool
   -- whether the haystack has ended
   pub ended : Bool
+  -- how many units it has room to keep
+  pub room : ℕ
   pub turns : ℕ
+
+-- room for as many units as the longest key has bytes, and for one where there is none
+abbrev pub IsRoomFor : {V : Type 0} → (ℕ → ℕ) → Dictionary V → ℕ → Type 0
+IsRoomFor width K room = (longest : ℕ) × IsLongest width K longest × (room ≡ max longest 1)
 
 -- what a match that is given leaves as it is
 abbrev pub IsSameStream : {V A : Type 0} → LeftmostStreamed V A → LeftmostStreamed V A → Type 0

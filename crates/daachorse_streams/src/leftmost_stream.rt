@@ -10,7 +10,7 @@ ghost use Rattle.daachorse_search.specs.BestScans.{HasNoLongerKey};
 ghost use Rattle.daachorse_search.specs.Views.{IsLeftmostView};
 ghost use Rattle.daachorse_streams.specs.Marked.{BeginsStreaming, IsMarkedFor};
 ghost use Rattle.daachorse_streams.specs.Standings.{IsLeftmostStanding, streamed_by};
-ghost use Rattle.daachorse_streams.specs.Streamed.{HasSkipped, IsSameStream, IsSettled, LooksAtKeys};
+ghost use Rattle.daachorse_streams.specs.Streamed.{HasSkipped, IsRoomFor, IsSameStream, IsSettled, LooksAtKeys};
 
 use crate::leftmost_standing::LeftmostStanding;
 use crate::scan::begin;
@@ -258,6 +258,14 @@ impl<'a, V: Copy, A: Automaton<V>, ALLOC: Allocator> LeftmostStream<'a, V, A, AL
                 return Some(found);
             }
         }
+    }
+
+    /// Does nothing. Its contract says for how many units there is room.
+    #[inline(always)]
+    pub fn room_is_exact(&self)
+        ensures { IsRoomFor A.Unit.width (A.sees self.now.automaton).content self.now.room }
+    {
+        let _ = &self.folds;
     }
 
     /// Does nothing. Its contract bounds the turns.

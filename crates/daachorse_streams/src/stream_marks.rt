@@ -8,6 +8,6 @@ use std::alloc::Allocator;
 pub struct StreamMarks<A: Allocator> {
     /// For each state whether it has a child.
     pub children: Vec<bool, A>,
-    /// At least as many bytes as the longest pattern has.
+    /// How many bytes the longest pattern has, or 0 if there is none.
     pub longest: usize,
 }

@@ -45,7 +45,7 @@ settled : (g : given.Over) (c : In_ok-held g) → Settled g c
 settled g c =
     let was = c.units.invariant in let done = c.in_ok-replace_certain.ensures in
     let certain = certain_as_started g.A.Automaton.sees g.A.Unit.EdgeLabel.width (done.same.0 ∙ was.automaton) done.same.2 (done.settled.certain (done.same.3 ∙ was.may.0)) in
-    record { certain = certain; goes = goes-settled (goes-out was.goes refl done.whole) g.met.A.Unit.EdgeLabel.wide c.requires.marks.longest certain c.in_ok-held.ensures.whole }
+    record { certain = certain; goes = goes-settled (goes-out was.goes refl done.whole) g.met.A.Unit.EdgeLabel.wide c.requires.marks.longest.none_longer certain c.in_ok-held.ensures.whole }
 
 -- the source has ended, and the stream and the bytes held stay
 record Ends (g : given.Over) (c : In_ok-behind g) : Type 0 where
@@ -111,7 +111,7 @@ returns-in_err-held-clause-beginning g c =
     let p = err_from_is_err_and c.from_residual-in_err-held.result c.from_residual-in_err-held.ensures.1 in
     let was = c.units.invariant in let done = c.in_ok-replace_certain.ensures in
     let certain = certain_as_started g.A.Automaton.sees g.A.Unit.EdgeLabel.width (done.same.0 ∙ was.automaton) done.same.2 (done.settled.certain (done.same.3 ∙ was.may.0)) in
-    rw p.1 (stops-settled (goes-out was.goes refl done.whole) g.met.A.Unit.EdgeLabel.wide c.requires.marks.longest certain _ _ _ p.2 c.in_err-held.ensures.part)
+    rw p.1 (stops-settled (goes-out was.goes refl done.whole) g.met.A.Unit.EdgeLabel.wide c.requires.marks.longest.none_longer certain _ _ _ p.2 c.in_err-held.ensures.part)
 
 pub overflow_add-held : goal.overflow_add-held
 overflow_add-held g c = omega (arith, goes-inside (goes-out c.units.invariant.goes refl c.in_ok-replace_certain.ensures.whole) g.met.A.Unit.AsciiFold.as_wide, c.in_ok-held.ensures.whole.inner)

@@ -13,7 +13,7 @@ use Rattle.daachorse_streams.specs.Standings.{streamed}
 use Rattle.daachorse_streams.specs.Streamed.{HasSkipped, LeftmostStreamed}
 use Rattle.daachorse_streams.proofs.PassingLaws.{GoesOn, front_clear, goes_on, none_kept}
 use Rattle.daachorse_streams.proofs.SearchingLaws.{place_is}
-use Rattle.daachorse_streams.proofs.StreamLaws.{none_waits}
+use Rattle.daachorse_streams.proofs.StreamLaws.{none_waits, room_some}
 use Rattle.daachorse_streams.proofs.leftmost_stream.LeftmostStream.skip.Given as given
 use Rattle.daachorse_streams.proofs.leftmost_stream.LeftmostStream.skip.Goals as goal
 use Rattle.daachorse_streams.proofs.leftmost_stream.LeftmostStream.skip.Goals.{After-left-2}
@@ -88,6 +88,9 @@ pass_over-requires-clause-fits g c =
       size-append unit.width is.passed (is.w ++ is.ahead),
       size-append unit.width is.w is.ahead,
     )
+
+pub pass_over-requires-clause-room : goal.pass_over-requires-clause-room
+pass_over-requires-clause-room g c = room_some c.self.invariant.1.room
 
 -- the search behind what was passed over
 moves : (g : given.Over) (c : After-left-2 g) (t : Search g.row.A-Unit.Denot g.row.ALLOC.Denot) → TakesFront g.A.Unit.EdgeLabel.width g.A.Unit.EdgeLabel.unit c.self.inside.search (passes g c).front t

@@ -1,7 +1,7 @@
 -- A leftmost search over a reader, one unit or one match further.
-use Rattle.std.proofs.Common.{◌≡◌, ℕ, suc, zero, ◌+◌, ◌≤◌, ◌<◌, inl, inr, Bool, true, false, List, [], ◌∷◌, ◌++◌, map, length, Option, Some, None, refl, sym, ap, ◌∙◌, subst, append_assoc, append-nil, length-append, arith}
+use Rattle.std.proofs.Common.{◌≡◌, ℕ, suc, zero, ◌+◌, ◌≤◌, ◌<◌, inl, inr, Bool, true, false, cond, List, [], ◌∷◌, ◌++◌, ◌-◌, map, length, Option, Some, None, refl, sym, ap, ◌∙◌, subst, append_assoc, append-nil, length-append, arith}
 use Rattle.std.proofs.lemmas.List.{length-map, map-append}
-use Rattle.std.specs.Iterator.{Count, IsFinite, MakesProgress, Yields, items_left}
+use Rattle.std.specs.Iterator.{Count, IsFinite, MakesProgress, at_most, count_map, Yields, items_left}
 use Rattle.std.specs.declared.io.Error.{Error}
 use Rattle.daachorse_model.specs.declared.Match.{Match}
 use Rattle.daachorse_model.specs.Certain.{AreCertain}
@@ -17,7 +17,7 @@ use Rattle.daachorse_haystack.proofs.ReadingLaws.{IsReady-as_it_is, MayReadAsRea
 use Rattle.daachorse_haystack.proofs.SourceLaws.{IsReady-more}
 use Rattle.daachorse_search.specs.Views.{AutomatonView}
 use Rattle.daachorse_streams.specs.Advancing.{HasConsumed}
-use Rattle.daachorse_streams.specs.LeftmostReading.{GaveLeftmost, GivesLeftmost, HasGivenAll, HasRead, LeftmostReading, Takes, TakesAll, TakesUnits, items_to_give, units_left}
+use Rattle.daachorse_streams.specs.LeftmostReading.{GaveAll, GaveError, GaveLeftmost, HasGivenAll, HasRead, LeftmostReading, Takes, TakesAll, TakesUnits, items_to_give, units_left}
 use Rattle.daachorse_streams.specs.Streamed.{IsSameStream, LeftmostStreamed}
 
 none_read : (folds : Bool) (read : List ℕ) → read ≡ read ++ as_read folds []
@@ -85,6 +85,18 @@ certain_between width K w a b ms certain all = (
 
 read_long : {V A U : Type 0} (unit : U → ℕ) (s : LeftmostStreamed V A) (xs : List U) → length (s.read ++ as_read s.folds (map unit xs)) ≡ length s.read + length xs
 read_long unit s xs = omega (arith, length-append s.read (as_read s.folds (map unit xs)), length-as_read s.folds (map unit xs), length-map xs unit)
+
+module _ {V A S : Type 0} (left : S → Count) (s : LeftmostReading V A S) where
+  -- what is left to give before all was given
+  left_open : s.over ≡ false
+      → items_to_give left s ≡ count_map (λ n. length s.stream.read + n + 2 - length s.stream.given) (units_left left s.source)
+  left_open open_yet =
+      ap (λ b. cond b (at_most 0) (count_map (λ n. length s.stream.read + n + 2 - length s.stream.given) (units_left left s.source))) open_yet
+
+  -- and after that
+  left_over : s.over ≡ true → items_to_give left s ≡ at_most 0
+  left_over over =
+      ap (λ b. cond b (at_most 0) (count_map (λ n. length s.stream.read + n + 2 - length s.stream.given) (units_left left s.source))) over
 
 module _ {V A S U : Type 0} (width : ℕ → ℕ) (sees : A → AutomatonView V) (steps : S → Option U → S → Type 0) (left : S → Count) (unit : U → ℕ) (failure : S → Option Error) where
   -- the units xs were taken, and read
@@ -183,7 +195,7 @@ module _ {V A S U : Type 0} {width : ℕ → ℕ} {sees : A → AutomatonView V}
   module _ {s : LeftmostReading V A S} {t : LeftmostStreamed V A} (is : AtEnd width sees steps left unit failure s t) where
     -- the matches that are left are given
     pub gave_last : (m : Match V) (new : LeftmostStreamed V A) → IsSameStream t new → new.given ≡ t.given ++ m ∷ [] → (rest : List (Match V)) × (leftmost width (sees new.automaton).content new.read ≡ new.given ++ rest)
-        → GaveLeftmost width sees steps left unit failure s is.xs m (record { stream = new; source = None })
+        → GaveLeftmost width sees steps left unit failure s is.xs m (record { stream = new; source = None; over = false })
     gave_last m new same given first = record {
       takes = is.takes;
       reads = record { same = same.0 ∙ is.reads.same; folds = same.1 ∙ is.reads.folds; read = same.2 ∙ is.reads.read };
@@ -192,22 +204,28 @@ module _ {V A S U : Type 0} {width : ℕ → ℕ} {sees : A → AutomatonView V}
       first = first;
     }
 
-    pub gave_all : (new : LeftmostStreamed V A) → IsSameStream t new → new.given ≡ t.given → new.given ≡ leftmost width (sees new.automaton).content new.read
-        → GivesLeftmost width sees steps left unit failure (Some s) None None
-    gave_all new same given all =
-        let K = (sees s.stream.automaton).content in (
-          is.xs,
-          is.takes,
-          sym is.given ∙ sym given ∙ all ∙ ap (λ a. leftmost width (sees a).content new.read) (same.0 ∙ is.reads.same) ∙ ap (leftmost width K) (same.2 ∙ is.reads.read),
-        )
+    pub gave_all : (new : LeftmostStreamed V A) → IsSameStream t new → new.given ≡ t.given → new.given ≡ leftmost width (sees new.automaton).content new.read → new.waiting ≡ false
+        → GaveAll width sees steps left unit failure s is.xs (record { stream = new; source = None; over = true })
+    gave_all new same given all quiet = record {
+      takes = is.takes;
+      reads = record {
+        reads = record { same = same.0 ∙ is.reads.same; folds = same.1 ∙ is.reads.folds; read = same.2 ∙ is.reads.read };
+        given = given ∙ is.given;
+      };
+      all = all;
+      quiet = quiet;
+    }
 
-  module _ (can : Option (LeftmostReading V A S) → Type 0) (may : (x : Option (LeftmostReading V A S)) → can x) {R : Type 0} (r : R) {before : Option (LeftmostReading V A S)} {s : LeftmostReading V A S} (was : before ≡ Some s) where
+  module _ (can : LeftmostReading V A S → Type 0) (may : (x : LeftmostReading V A S) → can x) {R : Type 0} (r : R) {before s t : LeftmostReading V A S} (was : before ≡ s) (open_yet : s.over ≡ false) where
     -- a match leaves fewer to give
-    pub goes_on : {t : LeftmostReading V A S} {xs : List U} {m : Match V} → GaveLeftmost width sees steps left unit failure s xs m t → IsFinite (units_left left t.source) → MakesProgress can (items_to_give left) before (Some r) (Some t)
-    goes_on {t = t} {xs = xs} {m = m} gave finite =
-        let P : Option (LeftmostReading V A S) → Type 0 = λ x. MakesProgress can (items_to_give left) x (Some r) (Some t) in
-        let fewer : (items_to_give left (Some t)).bound < (items_to_give left (Some s)).bound = omega (
+    pub goes_on : {xs : List U} {m : Match V} → t.over ≡ false → GaveLeftmost width sees steps left unit failure s xs m t
+        → IsFinite (units_left left t.source) → MakesProgress can (items_to_give left) before (Some r) t
+    goes_on {xs = xs} {m = m} on gave finite =
+        let P : LeftmostReading V A S → Type 0 = λ x. MakesProgress can (items_to_give left) x (Some r) t in
+        let fewer : (items_to_give left t).bound < (items_to_give left s).bound = omega (
           arith,
+          ap (λ (c : Count). c.bound) (left_open left t on),
+          ap (λ (c : Count). c.bound) (left_open left s open_yet),
           taken width sees steps left unit failure s.stream s.source t.source xs gave.takes,
           ap length gave.reads.read,
           read_long unit s.stream xs,
@@ -217,22 +235,25 @@ module _ {V A S U : Type 0} {width : ℕ → ℕ} {sees : A → AutomatonView V}
           length-append t.stream.given gave.first.0,
           few_matches width (sees t.stream.automaton).content t.stream.read,
         ) in
-        subst P (sym was) (record { on = λ _. (may (Some t), finite, fewer); keeps = may (Some t); rests = λ _. tt })
+        subst P (sym was) (record { on = λ _. (may t, subst IsFinite (sym (left_open left t on)) finite, fewer); keeps = may t; rests = λ _. tt })
 
     -- and so does an error
-    pub goes_to_error : {from : S} {xs : List U} {error : Option Error} → s.source ≡ Some from → TakesAll width sees steps left unit failure s.stream from xs error → MakesProgress can (items_to_give left) before (Some r) None
-    goes_to_error {from = from} {xs = xs} some all =
-        let P : Option (LeftmostReading V A S) → Type 0 = λ x. MakesProgress can (items_to_give left) x (Some r) None in
+    pub goes_to_error : {xs : List U} {error : Error} → t.over ≡ true → GaveError width sees steps left unit failure s xs error t
+        → MakesProgress can (items_to_give left) before (Some r) t
+    goes_to_error {xs = xs} ended gave =
+        let P : LeftmostReading V A S → Type 0 = λ x. MakesProgress can (items_to_give left) x (Some r) t in
         let read : List ℕ = s.stream.read ++ as_read s.stream.folds (map unit xs) in
-        let first = all.needed.0 [] in
-        let left_over : 0 < (items_to_give left (Some s)).bound = omega (
+        let first = gave.takes.needed.0 [] in
+        let fewer : (items_to_give left t).bound < (items_to_give left s).bound = omega (
           arith,
-          all.few,
-          ap (λ o. (units_left left o).bound) some,
+          ap (λ (c : Count). c.bound) (left_over left t ended),
+          ap (λ (c : Count). c.bound) (left_open left s open_yet),
+          gave.takes.few,
+          ap (λ o. (units_left left o).bound) gave.had,
           read_long unit s.stream xs,
           ap length (append-nil read),
           ap length first.1,
           length-append s.stream.given first.0,
           few_matches width (sees s.stream.automaton).content (read ++ []),
         ) in
-        subst P (sym was) (record { on = λ _. (may None, tt, left_over); keeps = may None; rests = λ _. tt })
+        subst P (sym was) (record { on = λ _. (may t, subst IsFinite (sym (left_over left t ended)) tt, fewer); keeps = may t; rests = λ _. tt })

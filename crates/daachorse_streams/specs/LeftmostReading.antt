@@ -1,5 +1,5 @@
 -- A leftmost search over a reader: what each call gives, and what it took of the source.
-use Rattle.std.specs.Prelude.{◌≡◌, ℕ, ◌+◌, ◌-◌, ◌≤◌, ◌⊎◌, true, false, List, [], ◌∷◌, ◌++◌, length, map, Option, Some, None, IfSome, Result, Ok, Err, ⊤}
+use Rattle.std.specs.Prelude.{◌≡◌, ℕ, ◌+◌, ◌-◌, ◌≤◌, ◌⊎◌, Bool, true, false, cond, List, [], ◌∷◌, ◌++◌, length, map, Option, Some, None, IfSome, Result, Ok, Err}
 use Rattle.std.specs.Iterator.{Count, Yields, YieldsThen, at_most, count_map, items_left}
 use Rattle.std.specs.declared.io.Error.{Error}
 use Rattle.daachorse_model.specs.declared.Match.{Match}
@@ -15,6 +15,8 @@ use Rattle.daachorse_streams.specs.Streamed.{LeftmostStreamed}
 pub record LeftmostReading (V A S : Type 0) : Type 0 where
   pub stream : LeftmostStreamed V A
   pub source : Option S
+  -- whether all was given
+  pub over : Bool
 
 -- the search may go on with the source, or the source has ended, and the haystack with it
 abbrev pub MayReadOn : {V A S : Type 0} → (S → List ℕ → Type 0) → LeftmostStreamed V A → Option S → Type 0
@@ -67,16 +69,36 @@ module _ {V A S U : Type 0} (width : ℕ → ℕ) (sees : A → AutomatonView V)
 
   -- what a call gives before the source has ended: the next certain match, or none where the source ends
   abbrev pub ReadsOn : LeftmostStreamed V A → S → Option (Match V) → LeftmostStreamed V A → S → Type 0
-  ReadsOn s from (Some m) t to = (xs : List U) × GaveLeftmost (record { stream = s; source = Some from }) xs m (record { stream = t; source = Some to })
+  ReadsOn s from (Some m) t to =
+      (xs : List U)
+      × GaveLeftmost (record { stream = s; source = Some from; over = false }) xs m (record { stream = t; source = Some to; over = false })
   ReadsOn s from None t to = (xs : List U) × TakesAll s from xs (failure to) × HasRead s xs t × (t.given ≡ s.given)
 
-  -- A call gives the next match. Behind the last match it gives the error at which the source ended, if it did, and then nothing for ever. Where there is no error, all matches of the haystack were given.
-  abbrev pub GivesLeftmost : Option (LeftmostReading V A S) → Option (Result (Match V) Error) → Option (LeftmostReading V A S) → Type 0
-  GivesLeftmost (Some s) (Some (Ok m)) (Some t) = (xs : List U) × GaveLeftmost s xs m t
-  GivesLeftmost (Some s) (Some (Err e)) None = (from : S) × (xs : List U) × (s.source ≡ Some from) × TakesAll s.stream from xs (Some e) × IsLasting e
-  GivesLeftmost (Some s) None None = (xs : List U) × Takes s.stream s.source xs None × (s.stream.given ≡ leftmost width (sees s.stream.automaton).content (read_with s.stream xs))
-  GivesLeftmost None None None = ⊤
-  GivesLeftmost s r t = ⊥
+  -- the units xs were read, and no match was given
+  pub record ReadInVain (s : LeftmostStreamed V A) (xs : List U) (t : LeftmostStreamed V A) : Type 0 where
+    pub reads : HasRead s xs t
+    pub given : t.given ≡ s.given
+
+  -- The source has ended with no error, and all matches of the haystack were given.
+  pub record GaveAll (s : LeftmostReading V A S) (xs : List U) (t : LeftmostReading V A S) : Type 0 where
+    pub takes : Takes s.stream s.source xs None
+    pub reads : ReadInVain s.stream xs t.stream
+    pub all : t.stream.given ≡ leftmost width (sees t.stream.automaton).content t.stream.read
+    pub quiet : t.stream.waiting ≡ false
+
+  -- The source ended with this error.
+  pub record GaveError (s : LeftmostReading V A S) (xs : List U) (error : Error) (t : LeftmostReading V A S) : Type 0 where
+    pub from : S
+    pub had : s.source ≡ Some from
+    pub takes : TakesAll s.stream from xs (Some error)
+    pub lasting : IsLasting error
+    pub reads : ReadInVain s.stream xs t.stream
+
+  -- A call gives the next match. After the last match it gives the error at which the source ended, if it did, and then nothing for ever.
+  abbrev pub GivesLeftmost : LeftmostReading V A S → Option (Result (Match V) Error) → LeftmostReading V A S → Type 0
+  GivesLeftmost s (Some (Ok m)) t = (s.over ≡ false) × (t.over ≡ false) × ((xs : List U) × GaveLeftmost s xs m t)
+  GivesLeftmost s (Some (Err e)) t = (s.over ≡ false) × (t.over ≡ true) × ((xs : List U) × GaveError s xs e t)
+  GivesLeftmost s None t = (t.over ≡ true) × (((s.over ≡ true) × (t ≡ s)) ⊎ ((s.over ≡ false) × ((xs : List U) × GaveAll s xs t)))
 
 -- the most units that may still come
 abbrev pub units_left : {S : Type 0} → (S → Count) → Option S → Count
@@ -84,6 +106,6 @@ units_left left None = at_most 0
 units_left left (Some source) = left source
 
 -- the most items that a call may still give: a match at each boundary, less those given, and an error
-abbrev pub items_to_give : {V A S : Type 0} → (S → Count) → Option (LeftmostReading V A S) → Count
-items_to_give left None = at_most 0
-items_to_give left (Some s) = count_map (λ n. length s.stream.read + n + 2 - length s.stream.given) (units_left left s.source)
+abbrev pub items_to_give : {V A S : Type 0} → (S → Count) → LeftmostReading V A S → Count
+items_to_give left s =
+    cond s.over (at_most 0) (count_map (λ n. length s.stream.read + n + 2 - length s.stream.given) (units_left left s.source))

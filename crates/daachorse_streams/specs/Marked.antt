@@ -1,5 +1,5 @@
 -- What the leftmost streams over one automaton share, and how they begin.
-use Rattle.std.specs.Prelude.{◌≡◌, ℕ, Bool, false, List, [], Option, Some, IsSomeAnd}
+use Rattle.std.specs.Prelude.{◌≡◌, ℕ, Bool, false, List, [], Option, Some}
 use Rattle.std.specs.declared.io.BufReader.{BufReader}
 use Rattle.daachorse_replacing.specs.Streams.{IsLongest}
 use Rattle.daachorse_search.specs.Readers.{IsInBlocks, Reading, to_read}
@@ -23,9 +23,10 @@ pub record BeginsStreaming {V A : Type 0} (a : A) (option : Bool) (s : LeftmostS
   pub turns : s.turns ≡ 0
 
 -- in what a reader gives, in the same way
-abbrev pub BeginsReadingLeftmost : {V A R : Type 0} → A → R → Bool → Option (LeftmostReading V A (Reading R)) → Type 0
-BeginsReadingLeftmost a reader option search = IsSomeAnd search (λ s. BeginsStreaming a option s.stream × (s.source ≡ Some (to_read reader)))
+abbrev pub BeginsReadingLeftmost : {V A R : Type 0} → A → R → Bool → LeftmostReading V A (Reading R) → Type 0
+BeginsReadingLeftmost a reader option search =
+    BeginsStreaming a option search.stream × (search.source ≡ Some (to_read reader)) × (search.over ≡ false)
 
 -- in what a reader gives by blocks; `known` is what it has left, if that is known
-abbrev pub BeginsLeftmostInBlocks : {V A R Z : Type 0} → (R → Option (List ℕ)) → A → R → Bool → Option (LeftmostReading V A (Reading (BufReader R Z))) → Type 0
+abbrev pub BeginsLeftmostInBlocks : {V A R Z : Type 0} → (R → Option (List ℕ)) → A → R → Bool → LeftmostReading V A (Reading (BufReader R Z)) → Type 0
 BeginsLeftmostInBlocks {R = R} {Z = Z} known a reader option search = (blocks : BufReader R Z) × IsInBlocks known reader blocks × BeginsReadingLeftmost a blocks option search

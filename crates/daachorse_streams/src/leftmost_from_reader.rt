@@ -36,10 +36,11 @@ pub struct LeftmostFromReader<
 where
     A::Unit: BlockUnit,
 {
-    // `None` after the end.
-    stream: Option<LeftmostStream<'a, V, A, ALLOC>>,
+    stream: LeftmostStream<'a, V, A, ALLOC>,
     // `None` after its end.
     source: Option<S>,
+    // Whether all was given.
+    over: bool,
     skipping: Skipping<'a, B>,
 }
 
@@ -48,16 +49,16 @@ impl<'a, V: Copy, A: Automaton<V>, ALLOC: Allocator, S: BlockSource<A::Unit>, B:
 where
     A::Unit: BlockUnit,
 {
-    ghost use Rattle.std.specs.Prelude.{Option, IfSome};
-    ghost use Rattle.std.specs.Option.{option_map};
+    ghost use Rattle.std.specs.Prelude.{◌≡◌, false};
     ghost use Rattle.daachorse_haystack.specs.Filters.{IsSoundFor};
     ghost use Rattle.daachorse_streams.specs.LeftmostReading.{LeftmostReading, MayReadOn};
 
-    ghost Value = { Option (LeftmostReading V A S) };
+    ghost Value = { LeftmostReading V A S };
 
-    ghost view = { λ s. option_map (λ stream. record { stream = stream; source = s.source }) s.stream };
+    ghost view = { λ s. record { stream = s.stream; source = s.source; over = s.over } };
 
-    ghost invariant = { λ s. IfSome s.stream (λ stream. MayReadOn S.Source.may_read stream s.source × IsSoundFor (A.Unit.passes s.skipping) (A.sees stream.automaton).content) };
+    ghost invariant = { λ s. (s.over ≡ false → MayReadOn S.Source.may_read s.stream s.source)
+        × IsSoundFor (A.Unit.passes s.skipping) (A.sees s.stream.automaton).content };
 }
 
 impl<
@@ -85,11 +86,12 @@ where
         requires open { stream.ended ≡ false }
         requires may { S.Source.may_read source [] }
         requires sound { IsSoundFor (A.Unit.passes skipping) (A.sees stream.automaton).content }
-        ensures { result ≡ Some (record { stream = stream.entry; source = Some source }) }
+        ensures { result ≡ record { stream = stream.entry; source = Some source; over = false } }
     {
         Self {
-            stream: Some(stream),
+            stream,
             source: Some(source),
+            over: false,
             skipping,
         }
     }
@@ -97,13 +99,12 @@ where
     /// Does nothing. Its contract bounds the turns.
     #[inline(always)]
     pub fn turns_are_bounded(&self)
-        ensures most { IfSome self.now (λ s. (m : ℕ) → HasNoLongerKey (A.sees s.stream.automaton).content m
-            → s.stream.turns ≤ 2 * length s.stream.read + 4 * (m * length s.stream.given)) }
-        ensures least { IfSome self.now (λ s. s.stream.waiting ≡ false → LooksAtKeys (A.sees s.stream.automaton) s.stream.read s.stream.read s.stream.turns) }
+        ensures most { (m : ℕ) → HasNoLongerKey (A.sees self.now.stream.automaton).content m
+            → self.now.stream.turns ≤ 2 * length self.now.stream.read + 4 * (m * length self.now.stream.given) }
+        ensures least { self.now.stream.waiting ≡ false
+            → LooksAtKeys (A.sees self.now.stream.automaton) self.now.stream.read self.now.stream.read self.now.stream.turns }
     {
-        if let Some(stream) = &self.stream {
-            stream.turns_are_bounded();
-        }
+        self.stream.turns_are_bounded();
     }
 }
 
@@ -122,23 +123,25 @@ where
 
     #[inline(always)]
     fn next(&mut self) -> Option<io::Result<Match<V>>> {
-        let stream = self.stream.as_mut()?;
+        if self.over {
+            return None;
+        }
         if let Some(source) = self.source.take() {
-            let (behind, some) = read_on(stream, source, &mut self.skipping);
+            let (behind, some) = read_on(&mut self.stream, source, &mut self.skipping);
             if let Some(found) = some {
                 self.source = Some(behind);
                 return Some(Ok(found));
             }
             if let Some(error) = behind.into_failure() {
-                self.stream = None;
+                self.over = true;
                 return Some(Err(error));
             }
-            stream.end();
+            self.stream.end();
         }
-        if let Some(found) = stream.next_certain() {
+        if let Some(found) = self.stream.next_certain() {
             return Some(Ok(found));
         }
-        self.stream = None;
+        self.over = true;
         None
     }
 }

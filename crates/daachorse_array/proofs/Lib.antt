@@ -39,3 +39,4 @@ pub mod MachineTrees
 pub mod MachineListings
 pub mod DescentLaws
 pub mod MarkLaws
+pub mod LengthLaws

@@ -1,6 +1,8 @@
 -- What contracts see of an array: its elements, the units that lead from one to another, and their failure links and first outputs.
 use Rattle.std.specs.Prelude.{◌≡◌, ℕ, ◌<◌, List, [], length, slice_index_or, Option, Some}
+use Rattle.daachorse_core.specs.declared.outputs.Output.{Output}
 use Rattle.daachorse_array.specs.Edges.{TellChildren, children_below, members}
+use Rattle.daachorse_array.specs.Machines.{Machine}
 
 pub record ArrayView : Type 0 where
   -- how many elements there are
@@ -35,3 +37,7 @@ pub record AreGroups (a : ArrayView) (groups : List (List ℕ)) : Type 0 where
 -- the children of an element, that of the greatest unit first
 abbrev pub children_of : ArrayView → ℕ → List ℕ
 children_of a i = children_below a.child i a.units
+
+-- the machine that an array is with these outputs
+abbrev pub machine_of : {V : Type 0} → ArrayView → List (Output V) → Machine V
+machine_of a outputs = record { child = a.child; fail = a.fail; output = a.first; outputs = outputs }

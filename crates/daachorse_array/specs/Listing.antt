@@ -85,3 +85,13 @@ pub record IsListingWalk {V : Type 0} (child : ℕ → ℕ → Option ℕ) (grou
 abbrev pub GivesPattern : {K V : Type 0} → (K → List ℕ) → List (List ℕ × V) → Option (Result (K × V) DaachorseError) → List (List ℕ × V) → Type 0
 GivesPattern text s r t =
     MatchOption r ((s ≡ []) × (t ≡ [])) (λ item. MatchResult item (λ e. s ≡ (text e.0, e.1) ∷ t) (λ e. IsOutOfMemory e × (s ≢ []) × (t ≡ [])))
+
+-- A walk over the texts: the one at which it stands, and the patterns of those after it.
+pub record Texts (V : Type 0) : Type 0 where
+  pub text : List ℕ
+  pub left : List (List ℕ × V)
+
+-- Whether a text was left: the walk has come to the first, past all of its patterns.
+abbrev pub HasMoved : {V : Type 0} → List (List ℕ × V) → Bool → Texts V → Type 0
+HasMoved s true t = (vs : List _) × (vs ≢ []) × (s ≡ with_values t.text vs ++ t.left)
+HasMoved s false t = (s ≡ []) × (t.left ≡ [])

@@ -178,7 +178,7 @@ impl<V: Copy, E: Keys<V, A> + Drop, A: Allocator + Copy> Iterator for PatternWal
 }
 
 /// Sets the text to that of an element with `depth` units, and puts its children aside.
-fn enter<V: Copy, E: Keys<V, A>, A: Allocator>(
+pub(crate) fn enter<V: Copy, E: Keys<V, A>, A: Allocator>(
     elements: &E,
     groups: &Siblings<A>,
     element: usize,
@@ -219,7 +219,7 @@ fn write_last<U: Copy, A: Allocator>(text: &mut Vec<U, A>, depth: usize, unit: U
 }
 
 /// The positions where an element's own outputs begin and end; both 0 if its chain is empty.
-fn own_outputs<E: Array>(elements: &E, element: usize) -> (usize, usize)
+pub(crate) fn own_outputs<E: Array>(elements: &E, element: usize) -> (usize, usize)
     requires { element < (E.sees elements.now).count }
     ensures first { result.0 ≡ (E.sees elements.now).first element }
     ensures stop { let view = E.sees elements.now in 0 < result.0 → result.1 ≡ own_end view.fail view.first element }

@@ -15,3 +15,4 @@ pub mod Groups
 pub mod Looks
 pub mod Keys
 pub mod Written
+pub mod TextBuckets

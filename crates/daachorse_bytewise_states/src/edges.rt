@@ -1,14 +1,15 @@
 //! The elements and their children, for listings and for the check of parts that were read.
 
-ghost use Rattle.std.specs.Prelude.{◌≡◌, ◌<◌, ◌≤◌, ◌-◌, bit_xor, Some, length, slice_get, slice_index_or, IfOk, IfErr};
+ghost use Rattle.std.specs.Prelude.{◌≡◌, ◌≢◌, ◌⊎◌, ◌<◌, ◌≤◌, ◌-◌, ℕ, List, [], bit_xor, Some, length, slice_get, slice_index_or, IfOk, IfErr};
 ghost use Rattle.daachorse_core.specs.Outputs.{number};
 ghost use Rattle.daachorse_core.specs.Refusals.{IsOutOfMemory};
 ghost use Rattle.daachorse_array.specs.Depths.{IsDepthTable};
+ghost use Rattle.daachorse_model.specs.Units.{byte_width, size};
 ghost use Rattle.daachorse_search.specs.Views.{HasMarks};
 ghost use Rattle.daachorse_bytewise_states.specs.declared.state.State.{State};
 ghost use Rattle.daachorse_bytewise_states.specs.Elements.{output_in};
 ghost use Rattle.daachorse_bytewise_states.specs.Grouped.{IsGrouped};
-ghost use Rattle.daachorse_bytewise_states.specs.Parts.{base_of, check_of, child, count, parts_with};
+ghost use Rattle.daachorse_bytewise_states.specs.Parts.{base_of, check_of, child, content, count, parts_with};
 ghost use Rattle.daachorse_bytewise_states.specs.Valid.{sees};
 
 use crate::for_kinds::{ByKind, ForKinds};
@@ -16,6 +17,7 @@ use crate::state::State;
 use crate::states::States;
 use daachorse_array::array::Array;
 use daachorse_array::depths::depths;
+use daachorse_array::lengths::longest_text;
 use daachorse_array::marks::child_marks;
 use daachorse_array::patterns::Keys;
 use daachorse_core::errors::Result;
@@ -226,6 +228,20 @@ impl<V: Copy, A: Allocator + Copy> States<V, A> {
     {
         let elements = self.elements_in::<K>();
         depths(alloc, &elements)
+    }
+
+    /// The number of bytes of the longest pattern; 0 if there is none. It goes over the elements.
+    ///
+    /// # Errors
+    /// Out of memory.
+    pub fn longest(&self, alloc: A) -> Result<usize>
+        ensures ok { IfOk result (λ longest. ((w : List ℕ) → content self.now w ≢ [] → size byte_width w ≤ longest)
+            × ((longest ≡ 0) ⊎ ((w : List ℕ) × (content self.now w ≢ []) × (size byte_width w ≡ longest)))) }
+        ensures err { IfErr result IsOutOfMemory }
+    {
+        let depths = self.depths(alloc)?;
+        let elements = self.elements();
+        Ok(longest_text::<V, _, A>(&elements, &depths))
     }
 
     /// For each element whether it has a child. Of a state that says whether its text goes on to a

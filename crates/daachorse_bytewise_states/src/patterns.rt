@@ -9,6 +9,7 @@ use crate::edges::Elements;
 use crate::for_kinds::ForKinds;
 use crate::states::States;
 use daachorse_array::patterns::PatternWalk;
+use daachorse_array::texts::TextWalk;
 use daachorse_core::errors::Result;
 use daachorse_search::view::{ForLeftmost, ForStandard};
 use std::alloc::{Allocator, Global};
@@ -82,6 +83,18 @@ impl<V: Copy, A: Allocator + Copy> States<V, A> {
             Walk::Standard(self.pattern_walk(alloc)?)
         };
         Ok(PatternIterator { walk })
+    }
+
+    /// A walk over the texts of the patterns in their order, each once and in place.
+    ///
+    /// # Errors
+    /// Out of memory.
+    pub fn texts<'a>(&'a self, alloc: A) -> Result<TextWalk<V, Elements<'a, V>, A>>
+        ensures ok { IfOk result (λ walk. IsListing (content self.entry.now) walk.left) }
+        ensures err { IfErr result IsOutOfMemory }
+    {
+        let elements = self.elements();
+        TextWalk::new(alloc, elements)
     }
 
     /// [`Self::pattern_iter`], with the list of elements known at compile time.

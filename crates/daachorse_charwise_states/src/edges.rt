@@ -1,11 +1,12 @@
 //! The elements and their children, for listings and for the check of parts that were read.
 
-ghost use Rattle.std.specs.Prelude.{◌≡◌, ◌<◌, ◌≤◌, ◌-◌, Some, length, slice_get, IfSome, IfOk, IfErr};
+ghost use Rattle.std.specs.Prelude.{◌≡◌, ◌≢◌, ◌⊎◌, ◌<◌, ◌≤◌, ◌-◌, ℕ, List, [], Some, length, slice_get, IfSome, IfOk, IfErr};
 ghost use Rattle.daachorse_core.specs.Outputs.{number};
 ghost use Rattle.daachorse_core.specs.Refusals.{IsOutOfMemory};
 ghost use Rattle.daachorse_array.specs.Depths.{IsDepthTable};
 ghost use Rattle.daachorse_search.specs.Views.{HasMarks};
 ghost use Rattle.daachorse_model.specs.Prefixes.{IsListing};
+ghost use Rattle.daachorse_model.specs.Units.{char_width, size};
 ghost use Rattle.daachorse_charwise_states.specs.Codings.{IsCoding};
 ghost use Rattle.daachorse_charwise_states.specs.Edges.{AreCharacters, IsLettered, character_at, character_of, edge_of};
 ghost use Rattle.daachorse_charwise_states.specs.Parts.{base_of, check_of, child, content, count};
@@ -19,8 +20,10 @@ use crate::states::States;
 use crate::strings::text_of;
 use daachorse_array::array::Array;
 use daachorse_array::climbs::depths_by_parents;
+use daachorse_array::lengths::longest_text;
 use daachorse_array::marks::child_marks;
 use daachorse_array::patterns::{Keys, PatternWalk};
+use daachorse_array::texts::TextWalk;
 use daachorse_core::errors::Result;
 use daachorse_core::{MatchKind, Output};
 use std::alloc::{Allocator, Global};
@@ -244,6 +247,20 @@ impl<V: Copy, A: Allocator + Copy> States<V, A> {
         depths_by_parents(alloc, &elements)
     }
 
+    /// The number of bytes of the longest pattern; 0 if there is none. It goes over the elements.
+    ///
+    /// # Errors
+    /// Out of memory.
+    pub fn longest(&self, alloc: A) -> Result<usize>
+        ensures ok { IfOk result (λ longest. ((w : List ℕ) → content self.now w ≢ [] → size char_width w ≤ longest)
+            × ((longest ≡ 0) ⊎ ((w : List ℕ) × (content self.now w ≢ []) × (size char_width w ≡ longest)))) }
+        ensures err { IfErr result IsOutOfMemory }
+    {
+        let elements = self.elements(alloc)?;
+        let depths = depths_by_parents(alloc, &elements)?;
+        Ok(longest_text::<V, _, A>(&elements, &depths))
+    }
+
     /// For each element whether it has a child. Of a state that says whether its text goes on to a
     /// pattern.
     ///
@@ -268,6 +285,18 @@ impl<V: Copy, A: Allocator + Copy> States<V, A> {
     {
         let elements = self.elements(alloc)?;
         PatternWalk::new(alloc, elements)
+    }
+
+    /// A walk over the texts of the patterns in their order, each once and in place.
+    ///
+    /// # Errors
+    /// Out of memory.
+    pub fn texts<'a>(&'a self, alloc: A) -> Result<TextWalk<V, Elements<'a, V, A>, A>>
+        ensures ok { IfOk result (λ walk. IsListing (content self.entry.now) walk.left) }
+        ensures err { IfErr result IsOutOfMemory }
+    {
+        let elements = self.elements(alloc)?;
+        TextWalk::new(alloc, elements)
     }
 }
 

@@ -11,6 +11,6 @@ mod packing;
 pub mod state;
 mod state_rows;
 pub mod states;
-mod strings;
+pub mod strings;
 mod unchecked;
 pub mod view;

@@ -98,8 +98,8 @@ echo "build.sh: a listing without room held no patterns"
 "$out/threads" 200
 echo "build.sh: threads searched shared automata at once"
 
-# steps WHAT NUMBER: the steps that a stream over so many equal patterns takes, or that searches for
-# each match take in a text of so many characters.
+# steps WHAT NUMBER: the steps that a stream over so many equal patterns takes, that searches for each
+# match take in a text of so many characters, or that a form of so many texts with so many values takes.
 steps() {
     valgrind --tool=callgrind --callgrind-out-file=/dev/null "$out/steps" "$@" 2>&1 | sed -n 's/.*Collected : \([0-9]*\).*/\1/p'
 }
@@ -116,6 +116,9 @@ if valgrind -q "$out/trial" >/dev/null 2>&1; then
     few=$(steps text 16000) many=$(steps text 32000)
     [ "$many" -le $((few * 5 / 2)) ] || { echo "build.sh: a search for each match takes $few steps in 16000 characters and $many in 32000" >&2; exit 1; }
     echo "build.sh: twice the text took a search for each match no more than two and a half times the steps"
+    few=$(steps form 1000) many=$(steps form 2000)
+    [ "$many" -le $((few * 5 / 2)) ] || { echo "build.sh: a form of 1000 texts with 1000 values takes $few steps and one of 2000 texts $many" >&2; exit 1; }
+    echo "build.sh: a form twice as long took no more than two and a half times the steps"
 else
     skip "the programs in C under valgrind: there is none that runs"
 fi

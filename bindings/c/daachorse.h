@@ -207,10 +207,9 @@ uint32_t daachorse_share(daachorse *handle, daachorse *other);
  * what it held. Searches of a whole haystack find the same, faster if patterns are few and short.
  * The rows take at most 319,484 bytes, and 2 for each element of the automaton. If more than 485
  * texts of at most two bytes begin patterns, or over characters more than 196 of at most two
- * characters, the copy may have none. If the automaton has a prefilter, the call walks over all
- * patterns up to twice, each time in the time and memory of daachorse_list: an automaton of a
- * stranger may have many for each of its own bytes. Returns DAACHORSE_DONE or, with other unchanged,
- * DAACHORSE_EMPTY_HANDLE or DAACHORSE_OUT_OF_MEMORY. */
+ * characters, the copy may have none. It takes time linear in the automaton's size, however many
+ * patterns it has. Returns DAACHORSE_DONE or, with other unchanged, DAACHORSE_EMPTY_HANDLE or
+ * DAACHORSE_OUT_OF_MEMORY. */
 uint32_t daachorse_accelerate(daachorse *handle, daachorse *other);
 
 /* The searches write their first matches to out, as many as there is room for, and their number to
@@ -283,9 +282,8 @@ uint32_t daachorse_replace(daachorse *handle, const uint8_t *haystack, size_t ha
 
 /* Begins a stream for the matches of a search, an enum daachorse_search, and drops a previous one.
  * It allocates nothing, but for DAACHORSE_LEFTMOST a byte for each element of the automaton and one,
- * or over characters four, for each byte of the longest pattern. For DAACHORSE_LEFTMOST it also walks
- * over all patterns, in the time of daachorse_list, and with memory that is freed before the call
- * returns: an automaton of a stranger may have many for each of its own bytes. Returns
+ * or over characters four, for each byte of the longest pattern. For DAACHORSE_LEFTMOST it also takes
+ * time linear in the automaton's size, and memory that is freed before the call returns. Returns
  * DAACHORSE_DONE or, with the handle unchanged, DAACHORSE_EMPTY_HANDLE, DAACHORSE_UNKNOWN_SEARCH,
  * DAACHORSE_OUT_OF_MEMORY, or DAACHORSE_WRONG_KIND if the search does not serve the automaton. */
 uint32_t daachorse_begin(daachorse *handle, uint32_t search);

@@ -113,8 +113,8 @@ impl<H: Haystack + ?Sized> Automaton<H> {
     }
 
     /// Returns a copy that finds the same, faster if patterns are few and short: it has rows of the
-    /// states near the root, if there is room for them. Streams are no faster. It walks over all
-    /// patterns if there is a prefilter.
+    /// states near the root, if there is room for them. Streams are no faster. It takes time linear
+    /// in the automaton's size.
     ///
     /// # Errors
     ///
@@ -362,8 +362,8 @@ impl<H: Haystack + ?Sized> Automaton<H> {
     }
 
     /// Begins a stream for the matches of [`Automaton::leftmost_find`]. It tells each as soon as it
-    /// is certain, whatever follows, and [`Stream::finish`] the rest. To begin it walks over all
-    /// patterns.
+    /// is certain, whatever follows, and [`Stream::finish`] the rest. To begin takes time linear in
+    /// the automaton's size.
     ///
     /// # Errors
     ///

@@ -163,7 +163,8 @@ pub extern "C" fn daachorse_share(alloc: Global, handle: &mut Handle, other: &mu
 
 /// Fills `other` with a copy of the automaton that has rows of the states near its root, unless it
 /// is too large for rows, and frees what it held. It finds the same, faster if patterns are few and
-/// short. The handle keeps its own, and `other` has no stream.
+/// short. The handle keeps its own, and `other` has no stream. It takes time linear
+/// in the automaton's size.
 ///
 /// # Errors
 ///
@@ -482,6 +483,7 @@ pub extern "C" fn daachorse_replace(
 /// Begins a stream, a haystack that comes in pieces. The search is that of 0 [`daachorse_find`],
 /// 1 [`daachorse_find_overlapping`], 2 [`daachorse_find_overlapping_no_suffix`] or
 /// 3 [`daachorse_leftmost_find`]. A previous stream is dropped, with its unreported matches.
+/// It takes time linear in the automaton's size.
 ///
 /// # Errors
 ///

@@ -14,4 +14,3 @@ pub mod StandardMatches
 pub mod SentLaws
 pub mod GoesLaws
 pub mod ReadLaws
-pub mod LongestLaws

@@ -91,6 +91,7 @@ impl<V: Copy, A: Allocator + Copy> DoubleArrayAhoCorasick<V, A> {
     /// With a prefilter and no pattern of less than three bytes, searches in a slice also ask eight
     /// buckets of patterns, unless the shortest has six bytes and there are fewer than 1,024
     /// states. The rows take at most 256 KiB and two bytes an element, and the buckets 64 KiB.
+    /// It takes time linear in the automaton's size, however many patterns it has.
     pub fn accelerate(self, alloc: A) -> Result<Accelerated<V, A>, AccelerateError<Self>>
         ensures automaton { IfOk result (λ a. a.automaton ≡ self) }
         ensures covered { IfOk result HasRowsNear }
@@ -138,22 +139,23 @@ impl<V: Copy, A: Allocator + Copy> DoubleArrayAhoCorasick<V, A> {
             return Ok(None);
         }
         let mut builder = BucketsBuilder::new(alloc)?;
-        for item in self.iter(alloc)? {
-            let (pattern, _value) = item?;
-            let bucket = filling.next_bucket(pattern.len());
-            builder.add(&pattern, bucket);
+        let mut texts = self.states.texts(alloc)?;
+        'texts: while texts.advance()? {
+            let text = texts.text();
+            let bucket = filling.next_bucket(text.len());
+            builder.add(text, bucket);
         }
         Ok(Some(builder.close()))
     }
 
-    /// How many patterns there are of each length.
+    /// How many texts are patterns of each length.
     fn filling(&self, alloc: A) -> Result<Filling>
         ensures err { IfErr result IsOutOfMemory }
     {
         let mut filling = Filling::new();
-        for item in self.iter(alloc)? {
-            let (pattern, _value) = item?;
-            filling.count(pattern.len());
+        let mut texts = self.states.texts(alloc)?;
+        'texts: while texts.advance()? {
+            filling.count(texts.text().len());
         }
         Ok(filling)
     }

@@ -27,8 +27,7 @@ impl<V: Copy, A: Allocator + Copy> DoubleArrayAhoCorasick<V, A> {
     /// Makes what leftmost streams over this automaton share: a byte for each state, and the length
     /// of the longest pattern.
     ///
-    /// It goes over the states and the patterns, for which it takes what [`Self::iter`] takes, and
-    /// fails only if an allocation fails.
+    /// It takes time linear in the automaton's size, and fails only if an allocation fails.
     pub fn stream_marks(&self, alloc: A) -> Result<StreamMarks<A>>
         ensures ok { IfOk result (IsMarkedFor byte_width (sees (states_of self.now))) }
         ensures err { IfErr result IsOutOfMemory }

@@ -6,7 +6,7 @@ ghost use Rattle.daachorse_model.specs.declared.MatchKind.TheVariants.{Standard}
 ghost use Rattle.daachorse_model.specs.Folding.{as_read};
 ghost use Rattle.daachorse_model.specs.Units.{byte_width};
 ghost use Rattle.daachorse_replacing.specs.ByKind.{non_overlapping};
-ghost use Rattle.daachorse_replacing.specs.Streams.{HasNoLonger, ReplacesRead};
+ghost use Rattle.daachorse_replacing.specs.Streams.{IsLongest, ReplacesRead};
 ghost use Rattle.daachorse_bytewise.specs.Automata.{dictionary_of, kind_of};
 
 use super::DoubleArrayAhoCorasick;
@@ -26,8 +26,8 @@ impl<V: Copy, A: Allocator + Copy> DoubleArrayAhoCorasick<V, A> {
     /// [`Self::replace_all`]. Of `ab` and `b`, each replaced by its length, `abxb` becomes `2x1`.
     ///
     /// It holds at most as many bytes as the longest pattern has, and two blocks of 64 KiB. For
-    /// leftmost matches it also holds as many units, and what [`Self::stream_marks`] makes. To find
-    /// the longest it lists the patterns first, for which it takes what [`Self::iter`] takes.
+    /// leftmost matches it also holds as many units, and what [`Self::stream_marks`] makes. It finds
+    /// the longest first, in time linear in the automaton's size.
     ///
     /// Stops at the first error, of the reader, of the writer, of `write` or of an allocation. The
     /// writer then has a beginning of what it was to get, whatever would have been read next. A
@@ -104,10 +104,10 @@ impl<V: Copy, A: Allocator + Copy> DoubleArrayAhoCorasick<V, A> {
 
     /// The length of the longest pattern.
     pub(super) fn longest_pattern(&self) -> Result<usize>
-        ensures ok { IfOk result (HasNoLonger byte_width (dictionary_of self.now)) }
+        ensures ok { IfOk result (IsLongest byte_width (dictionary_of self.now)) }
         ensures err { IfErr result IsOutOfMemory }
     {
-        self.max_pattern_len(*self.depths.allocator())
+        self.states.longest(*self.depths.allocator())
     }
 }
 

@@ -28,6 +28,7 @@ use crate::charwise::iter::{
 };
 use crate::charwise::{CharwiseDoubleArrayAhoCorasick, states};
 use daachorse_charwise_states::for_rows::ForRows;
+use daachorse_charwise_states::strings::first_ten;
 use daachorse_core::MatchKind;
 use daachorse_core::errors::{DaachorseError, Result};
 use daachorse_haystack::decoding::Decoded;
@@ -95,6 +96,7 @@ impl<V: Copy, A: Allocator + Copy> CharwiseDoubleArrayAhoCorasick<V, A> {
     /// With a prefilter and no pattern of less than three bytes, searches in a text also ask eight
     /// buckets of patterns, unless the shortest has six bytes and there are fewer than 1,024
     /// states. The rows take at most 256 KiB and two bytes an element, and the buckets 64 KiB.
+    /// It takes time linear in the automaton's size, however many patterns it has.
     pub fn accelerate(self, alloc: A) -> Result<Accelerated<V, A>, AccelerateError<Self>>
         ensures automaton { IfOk result (λ a. a.automaton ≡ self) }
         ensures covered { IfOk result HasRowsNear }
@@ -142,23 +144,26 @@ impl<V: Copy, A: Allocator + Copy> CharwiseDoubleArrayAhoCorasick<V, A> {
             return Ok(None);
         }
         let mut builder = BucketsBuilder::new(alloc)?;
-        for item in self.iter(alloc)? {
-            let (pattern, _value) = item?;
-            let text = pattern.as_str();
+        let mut texts = self.states.texts(alloc)?;
+        'texts: while texts.advance()? {
+            // Buckets read ten bytes, and take all lengths from nine on alike.
+            let beginning = first_ten(alloc, texts.text())?;
+            let text = beginning.as_str();
             let bucket = filling.next_bucket(text.len());
             builder.add(text.as_bytes(), bucket);
         }
         Ok(Some(builder.close()))
     }
 
-    /// How many patterns there are of each length.
+    /// How many texts are patterns of each length.
     fn filling(&self, alloc: A) -> Result<Filling>
         ensures err { IfErr result IsOutOfMemory }
     {
         let mut filling = Filling::new();
-        for item in self.iter(alloc)? {
-            let (pattern, _value) = item?;
-            filling.count(pattern.as_str().len());
+        let mut texts = self.states.texts(alloc)?;
+        'texts: while texts.advance()? {
+            let beginning = first_ten(alloc, texts.text())?;
+            filling.count(beginning.as_str().len());
         }
         Ok(filling)
     }

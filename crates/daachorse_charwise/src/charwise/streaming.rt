@@ -7,7 +7,7 @@ ghost use Rattle.daachorse_model.specs.declared.MatchKind.TheVariants.{Standard}
 ghost use Rattle.daachorse_model.specs.Folding.{as_read};
 ghost use Rattle.daachorse_model.specs.Units.{char_width};
 ghost use Rattle.daachorse_replacing.specs.ByKind.{non_overlapping};
-ghost use Rattle.daachorse_replacing.specs.Streams.{HasNoLonger, ReplacesRead};
+ghost use Rattle.daachorse_replacing.specs.Streams.{IsLongest, ReplacesRead};
 ghost use Rattle.daachorse_charwise.specs.Automata.{dictionary_of, kind_of};
 
 use super::CharwiseDoubleArrayAhoCorasick;
@@ -29,8 +29,8 @@ impl<V: Copy, A: Allocator + Copy> CharwiseDoubleArrayAhoCorasick<V, A> {
     /// `2x1`.
     ///
     /// It holds at most as many bytes as the longest pattern has, and two blocks of 64 KiB. For
-    /// leftmost matches it also holds as many units, and what [`Self::stream_marks`] makes. To find
-    /// the longest it lists the patterns first, for which it takes what [`Self::iter`] takes.
+    /// leftmost matches it also holds as many units, and what [`Self::stream_marks`] makes. It finds
+    /// the longest first, in time linear in the automaton's size.
     ///
     /// Stops at the first error, of the reader, of the writer, of `write` or of an allocation, and
     /// at bytes that are no UTF-8 with [`InvalidData`](io::ErrorKind::InvalidData). The writer then
@@ -108,15 +108,10 @@ impl<V: Copy, A: Allocator + Copy> CharwiseDoubleArrayAhoCorasick<V, A> {
 
     /// The length of the longest pattern, in bytes.
     pub(super) fn longest_pattern(&self) -> Result<usize>
-        ensures ok { IfOk result (HasNoLonger char_width (dictionary_of self.now)) }
+        ensures ok { IfOk result (IsLongest char_width (dictionary_of self.now)) }
         ensures err { IfErr result IsOutOfMemory }
     {
-        let mut longest = 0;
-        for item in self.iter(*self.depths.allocator())? {
-            let (pattern, _value) = item?;
-            longest = longest.max(pattern.as_str().len());
-        }
-        Ok(longest)
+        self.states.longest(*self.depths.allocator())
     }
 }
 

@@ -1,8 +1,13 @@
--- No pattern takes more bytes than the longest that is listed.
+-- The states tell the longest pattern.
+use Rattle.std.proofs.Common.{subst}
+use Rattle.std.specs.Prelude.{IfOk}
 use Rattle.std.proofs.lemmas.Result.{IfOk-weaker}
-use Rattle.daachorse_replacing.proofs.LongestLaws.{longest_listed}
-use Rattle.daachorse_bytewise.specs.Automata.{dictionary_of}
+use Rattle.daachorse_model.specs.Units.{byte_width}
+use Rattle.daachorse_replacing.specs.Streams.{IsLongest}
+use Rattle.daachorse_bytewise.specs.Automata.{Automaton, dictionary_of}
 use Rattle.daachorse_bytewise.proofs.bytewise.DoubleArrayAhoCorasick.longest_pattern.Goals as goal
 
 pub returns-clause-ok : goal.returns-clause-ok
-returns-clause-ok g c = IfOk-weaker c.max_pattern_len.result _ _ (longest_listed (dictionary_of c.args.self.now)) c.max_pattern_len.ensures.ok
+returns-clause-ok g c =
+    let P : Automaton g.row.V.Denot → Type 0 = λ a. IfOk c.longest.result (IsLongest byte_width (dictionary_of a)) in
+    subst P c.self.view_is (IfOk-weaker c.longest.result _ _ (λ longest is. record { none_longer = is.0; some = is.1 }) c.longest.ensures.ok)

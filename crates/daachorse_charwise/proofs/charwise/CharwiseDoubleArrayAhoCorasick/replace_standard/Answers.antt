@@ -31,7 +31,7 @@ returns-in_err-in_blocks g c =
 pub replace_from-requires-clause-longest : goal.replace_from-requires-clause-longest
 replace_from-requires-clause-longest g c =
     let P : Parts g.row.V.Denot → Type 0 = λ p. HasNoLonger char_width (content p) c.in_ok-longest.longest in
-    subst P (sym (c.standard.ensures ∙ ap (λ (a : Automaton g.row.V.Denot). a.parts) c.self.view_is)) c.in_ok-longest.ensures.ok
+    subst P (sym (c.standard.ensures ∙ ap (λ (a : Automaton g.row.V.Denot). a.parts) c.self.view_is)) c.in_ok-longest.ensures.ok.none_longer
 
 pub returns : goal.returns
 returns g c =

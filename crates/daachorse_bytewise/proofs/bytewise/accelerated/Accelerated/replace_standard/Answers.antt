@@ -33,7 +33,7 @@ pub replace_from-requires-clause-longest : goal.replace_from-requires-clause-lon
 replace_from-requires-clause-longest g c =
     let P : Rowed (Parts g.row.V.Denot) → Type 0 = λ r. HasNoLonger byte_width (content r.automaton) c.in_ok-longest.longest in
     let Q : Automaton g.row.V.Denot → Type 0 = λ a. HasNoLonger byte_width (dictionary_of a) c.in_ok-longest.longest in
-    subst P (sym c.standard.ensures) (subst Q c.automaton.ensures c.in_ok-longest.ensures.ok)
+    subst P (sym c.standard.ensures) (subst Q c.automaton.ensures c.in_ok-longest.ensures.ok.none_longer)
 
 pub returns : goal.returns
 returns g c =

@@ -3,11 +3,16 @@ use Rattle.std.specs.Prelude.{◌≡◌, ◌⊎◌, ◌+◌, ⊤, ℕ, zero, suc
 use Rattle.std.specs.Option.{option_map}
 use Rattle.std.specs.Borrow.{Bor}
 use Rattle.std.specs.Io.KnownBytes.{Appends, Keeps}
+use Rattle.daachorse_model.specs.Program.{pattern_lines}
+use Rattle.daachorse_bytewise.specs.Building.{IsBuildRefusal}
+use Rattle.daachorse_bytewise.specs.DaachorseError.{DaachorseError}
 use Rattle.daachorse_bytewise.specs.Replaced.{AppendsBeginning}
 use Rattle.daacfind_command.specs.declared.command.CommandError.{CommandError}
 use Rattle.daacfind_command.specs.declared.command.CommandError.TheVariants.{Usage, Read, Run}
 use Rattle.daacfind_command.specs.declared.mode.Mode.{Mode}
-use Rattle.daacfind_command.specs.Modes.{mode_word, text_of_mode}
+use Rattle.daacfind_command.specs.declared.run.RunError.TheVariants.{Build, Write}
+use Rattle.daacfind_command.specs.Modes.{kind_of_mode, mode_word, text_of_mode}
+use Rattle.daacfind_command.specs.Runs.{value_gives}
 
 -- the arguments as texts, none where one is not UTF-8
 abbrev pub words_of : List (Option (Bor (List ℕ))) → List (Option (List ℕ))
@@ -39,20 +44,38 @@ module _ (words : List (Option (List ℕ))) (given : Option (List ℕ → Option
     pub has_haystack : Tells given haystack_name (Some haystack)
     pub is : text ≡ text_of_mode mode patterns haystack
 
-  -- one of the two files that the words name cannot be read
-  pub record IsUnread : Type 0 where
+  -- the file of this name is the first of the two that cannot be read: the patterns, or after these were read the haystack
+  pub record IsUnread (name : List ℕ) : Type 0 where
     pub mode : Mode
     pub patterns_name : List ℕ
     pub haystack_name : List ℕ
     pub asked : Ask words mode patterns_name haystack_name
-    pub unread : Tells given patterns_name None ⊎ Tells given haystack_name None
+    pub unread : ((name ≡ patterns_name) × Tells given name None)
+        ⊎ ((name ≡ haystack_name) × Tells given name None × ((patterns : List ℕ) × Tells given patterns_name (Some patterns)))
+
+  -- the words name two files and a mode, and the build refuses the lines of the first
+  pub record IsRefused (refusal : DaachorseError) : Type 0 where
+    pub mode : Mode
+    pub patterns_name : List ℕ
+    pub haystack_name : List ℕ
+    pub asked : Ask words mode patterns_name haystack_name
+    pub patterns : List ℕ
+    pub has_patterns : Tells given patterns_name (Some patterns)
+    pub refused : IsBuildRefusal value_gives (kind_of_mode mode) (pattern_lines patterns) refusal
+
+  -- what an error says: which file cannot be read, or why the build refuses
+  abbrev pub IsCause : CommandError → Type 0
+  IsCause Usage = AskNothing words
+  IsCause (Read name) = IsUnread name.now
+  IsCause (Run (Build refusal)) = IsRefused refusal
+  IsCause (Run Write) = (text : List ℕ) × IsAsked text
 
   module _ (old new : Option (List ℕ)) (failures_old failures_new : ℕ) where
     -- what a status says: 0 that all of the text was written, 1 that a file cannot be read, that the build refused, or that writing failed, and 2 that nothing was asked
     abbrev pub EndsBy : ℕ → Type 0
     EndsBy zero = (text : List ℕ) × IsAsked text × Appends old new text × (failures_new ≡ failures_old)
     EndsBy (suc zero) =
-        ((IsUnread ⊎ ((text : List ℕ) × IsAsked text)) × Keeps old new × (failures_new ≡ failures_old))
+        ((((name : List ℕ) × IsUnread name) ⊎ ((refusal : DaachorseError) × IsRefused refusal)) × Keeps old new × (failures_new ≡ failures_old))
         ⊎ ((text : List ℕ) × IsAsked text × AppendsBeginning old new text × (failures_new ≡ failures_old + 1))
     EndsBy (suc (suc zero)) = AskNothing words × Keeps old new × (failures_new ≡ failures_old)
     EndsBy (suc (suc (suc n))) = ⊥

@@ -1,7 +1,7 @@
 //! The command: from arguments to a status, and to a line on standard error if it fails.
 
-ghost use Rattle.std.specs.Prelude.{◌≡◌, None, IfSome};
-ghost use Rattle.daacfind_command.specs.Commands.{Ask, AskNothing, EndsBy, status_of, words_of};
+ghost use Rattle.std.specs.Prelude.{◌≡◌, IfErr, IfSome, None, OnOk};
+ghost use Rattle.daacfind_command.specs.Commands.{Ask, AskNothing, EndsBy, IsCause, status_of, words_of};
 
 use crate::inputs::Inputs;
 use crate::mode::Mode;
@@ -52,6 +52,7 @@ pub fn command<A: Allocator + Copy, I: Inputs, S: Sink, E: Sink>(
     err: &mut E,
 ) -> u8
     ensures ends { EndsBy (words_of args.now) (I.given files.old) (S.taken out.old) (S.taken out.new) (S.failures out.old) (S.failures out.new) result }
+    ensures flushed { result ≡ 0 → S.unflushed out.new ≡ 0 }
     ensures untouched { result ≡ 2 → (files.new ≡ files.old) × (out.new ≡ out.old) }
 {
     match attempt(alloc, args, files, out) {
@@ -73,6 +74,8 @@ fn attempt<'a, A: Allocator + Copy, I: Inputs, S: Sink>(
     out: &mut S,
 ) -> Result<(), CommandError<'a>>
     ensures ends { EndsBy (words_of args.now) (I.given files.old) (S.taken out.old) (S.taken out.new) (S.failures out.old) (S.failures out.new) (status_of result) }
+    ensures cause { IfErr result (IsCause (words_of args.now) (I.given files.old)) }
+    ensures flushed { OnOk result (S.unflushed out.new ≡ 0) }
     ensures untouched { status_of result ≡ 2 → (files.new ≡ files.old) × (out.new ≡ out.old) }
 {
     let Some((mode, patterns, haystack)) = asked(args) else {

@@ -78,6 +78,7 @@ pub fn run<S: Sink, A: Allocator + Copy>(
 ) -> Result<(), RunError>
     ensures written { OnOk result (Appends (S.taken out.old) (S.taken out.new) (text_of_mode mode patterns.now haystack.now)) }
     ensures unfailed { OnOk result (S.failures out.new ≡ S.failures out.old) }
+    ensures flushed { OnOk result (S.unflushed out.new ≡ 0) }
     ensures beginning { IfErr result (λ e. OnWrite e (AppendsBeginning (S.taken out.old) (S.taken out.new) (text_of_mode mode patterns.now haystack.now))) }
     ensures failed { IfErr result (λ e. OnWrite e (S.failures out.new ≡ S.failures out.old + 1)) }
     ensures refusal { IfErr result (λ e. IfBuild e (IsBuildRefusal value_gives (kind_of_mode mode) (pattern_lines patterns.now))) }

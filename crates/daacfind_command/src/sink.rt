@@ -23,23 +23,29 @@ pub trait Sink {
     // The number of failures.
     ghost failures: { Self → ℕ };
 
+    // The number of writes after the last flush.
+    ghost unflushed: { Self → ℕ };
+
     /// Takes the first `n` bytes and returns `n`. An error means that it took none.
     fn write(&mut self, bytes: &[u8]) -> Result<usize, SinkError>
         ensures bound { IfOk result (λ n. n ≤ length bytes.now) }
         ensures taken { WriteAppends (taken self.old) (taken self.new) result bytes.now }
-        ensures failures { failures self.new ≡ failures_after_write result bytes.now (failures self.old) };
+        ensures failures { failures self.new ≡ failures_after_write result bytes.now (failures self.old) }
+        ensures unflushed { unflushed self.new ≡ unflushed self.old + 1 };
 
     /// Passes on what is buffered.
     fn flush(&mut self) -> Result<(), SinkError>
         ensures taken { Keeps (taken self.old) (taken self.new) }
-        ensures failures { failures self.new ≡ failures_after_flush result (failures self.old) };
+        ensures failures { failures self.new ≡ failures_after_flush result (failures self.old) }
+        ensures flushed { OnOk result (unflushed self.new ≡ 0) };
 }
 
-/// A sink over a writer. Its count of failures is for contracts alone, and takes no space.
+/// A sink over a writer. Its counts are for contracts alone, and take no space.
 #[derive(Drop)]
 pub struct WriterSink<W: Write> {
     writer: W,
     failures: Counter,
+    unflushed: Counter,
 }
 
 impl<W: Write> Model for WriterSink<W> {
@@ -47,18 +53,20 @@ impl<W: Write> Model for WriterSink<W> {
 
     ghost Value = { CountedWriter W };
 
-    ghost view = { λ s. record { writer = s.writer; failures = s.failures } };
+    ghost view = { λ s. record { writer = s.writer; failures = s.failures; unflushed = s.unflushed } };
 }
 
 impl<W: Write> WriterSink<W> {
-    /// Makes a sink over the writer, with no failure so far.
+    /// Makes a sink over the writer, with no failure and no write so far.
     pub fn new(writer: W) -> Self
         ensures writer { result.writer ≡ writer }
         ensures failures { result.failures ≡ 0 }
+        ensures unflushed { result.unflushed ≡ 0 }
     {
         WriterSink {
             writer,
             failures: Counter::new(),
+            unflushed: Counter::new(),
         }
     }
 
@@ -72,6 +80,7 @@ impl<W: Write> WriterSink<W> {
     fn fail(&mut self) -> SinkError
         ensures writer { self.new.writer ≡ self.old.writer }
         ensures failures { self.new.failures ≡ self.old.failures + 1 }
+        ensures unflushed { self.new.unflushed ≡ self.old.unflushed }
     {
         self.failures.increment();
         SinkError
@@ -83,7 +92,10 @@ impl<W: Write> Sink for WriterSink<W> {
 
     ghost failures = { λ s. s.failures };
 
+    ghost unflushed = { λ s. s.unflushed };
+
     fn write(&mut self, bytes: &[u8]) -> Result<usize, SinkError> {
+        self.unflushed.increment();
         match self.writer.write(bytes) {
             Ok(0) if !bytes.is_empty() => {
                 self.fail();
@@ -96,7 +108,10 @@ impl<W: Write> Sink for WriterSink<W> {
 
     fn flush(&mut self) -> Result<(), SinkError> {
         match self.writer.flush() {
-            Ok(()) => Ok(()),
+            Ok(()) => {
+                self.unflushed = Counter::new();
+                Ok(())
+            }
             Err(_) => Err(self.fail()),
         }
     }

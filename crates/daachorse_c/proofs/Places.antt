@@ -18,7 +18,7 @@ use Rattle.daachorse_replacing.proofs.Cuts.{parts_of_bytes, parts_of_text}
 use Rattle.daachorse_c.specs.declared.place.Place.{Place}
 use Rattle.daachorse_c.specs.Automata.{Automaton, Bytes, Characters, Reads, dictionary_of, folds_of, kind_of, text_read, unit_of, width_of}
 use Rattle.daachorse_c.specs.Units.{IsTextIn, units_in}
-use Rattle.daachorse_c.specs.Places.{IsPlaceIn, StandsBehind, afresh, found_from, left_of}
+use Rattle.daachorse_c.specs.Places.{IsPlaceIn, IsStep, StandsBehind, afresh, found_from, left_of}
 use Rattle.daachorse_search.proofs.AfreshLaws.{shifted-none, shifted-twice}
 use Rattle.daachorse_c.proofs.Behind.{behind_front, first_read, size-read, wide}
 use Rattle.daachorse_c.proofs.Heads.{no_match}
@@ -136,12 +136,8 @@ module _ (a : Automaton) (h : List ℕ) (p : Place) where
   pub pass_over : p.over ≡ true → left_of a h p ≡ []
   pass_over is = ap (λ b. cond b [] (found_from (width_of a) (dictionary_of a) (kind_of a) p.at p.after (text_read a (drop p.at h)))) is
 
-  -- the unit at a place is so wide
-  abbrev IsStep : ℕ → ℕ → Type 0
-  IsStep at step = (u : ℕ) (more : List ℕ) → units_in (unit_of a) (drop at h) ≡ u ∷ more → step ≡ width_of a u
-
   -- a place moves behind the first match, within the haystack
-  pub step_within : (m : Match ℕ) (ms : List (Match ℕ)) (step : ℕ) → IsFirst a h p.at m ms → IsStep m.end step → m.end ≤ m.start → m.end < length h → m.end + step ≤ length h
+  pub step_within : (m : Match ℕ) (ms : List (Match ℕ)) (step : ℕ) → IsFirst a h p.at m ms → IsStep a h m.end step → m.end ≤ m.start → m.end < length h → m.end + step ≤ length h
   step_within m ms step f is le lt = by (text_read a (drop m.end h)) refl
     where
       by : (w : List ℕ) → text_read a (drop m.end h) ≡ w → m.end + step ≤ length h
@@ -150,7 +146,7 @@ module _ (a : Automaton) (h : List ℕ) (p : Place) where
           let first = first_read (unit_of a) (folds_of a) (units_in (unit_of a) (drop m.end h)) u more some in
           omega (arith, (f.empty le u more some).0.within, is first.0 first.1 first.2, first.3)
 
-  behind_is : (m : Match ℕ) (ms : List (Match ℕ)) (step : ℕ) (q : Place) → IsFirst a h p.at m ms → IsStep m.end step → StandsBehind m step (length h) q → IsPlaceIn a h q.at × (ms ≡ left_of a h q)
+  behind_is : (m : Match ℕ) (ms : List (Match ℕ)) (step : ℕ) (q : Place) → IsFirst a h p.at m ms → IsStep a h m.end step → StandsBehind m step (length h) q → IsPlaceIn a h q.at × (ms ≡ left_of a h q)
   behind_is m ms step q f is s = elim (cases_lt m.start m.end) [
     | inl lt ↦ let here = s.nonempty lt in (subst (λ n. IsPlaceIn a h n) (sym (ap (λ (x : Place). x.at) here)) f.place, f.nonempty lt ∙ ap (left_of a h) (sym here))
     | inr le ↦ by le (text_read a (drop m.end h)) refl
@@ -172,7 +168,7 @@ module _ (a : Automaton) (h : List ℕ) (p : Place) where
 
   -- what is found at the place is what is left, and the place moves behind its first match
   pub pass_some : p.over ≡ false → (m : Match ℕ) (ms : List (Match ℕ)) → found a h (text_read a (drop p.at h)) ≡ m ∷ ms → IsFirst a h p.at (shifted p.at m) (map (shifted p.at) ms)
-      → (step : ℕ) (q : Place) → IsStep (p.at + m.end) step → StandsBehind (shifted p.at m) step (length h) q → IsPlaceIn a h q.at × (left_of a h (afresh p) ≡ shifted p.at m ∷ left_of a h q)
+      → (step : ℕ) (q : Place) → IsStep a h (p.at + m.end) step → StandsBehind (shifted p.at m) step (length h) q → IsPlaceIn a h q.at × (left_of a h (afresh p) ≡ shifted p.at m ∷ left_of a h q)
   pass_some is m ms e f step q wide_step s =
       let b = behind_is (shifted p.at m) (map (shifted p.at) ms) step q f wide_step s in (
         b.0,

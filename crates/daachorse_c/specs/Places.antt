@@ -1,5 +1,5 @@
 -- Where a search for matches that do not overlap goes on in a haystack, and what is left for it to find.
-use Rattle.std.specs.Prelude.{◌≡◌, ◌≢◌, ◌⊎◌, ℕ, ◌+◌, ◌<◌, ◌≤◌, Bool, true, false, cond, List, [], drop, length, map, Option, IsSomeAnd}
+use Rattle.std.specs.Prelude.{◌≡◌, ◌≢◌, ◌⊎◌, ℕ, ◌+◌, ◌<◌, ◌≤◌, Bool, true, false, cond, List, [], ◌∷◌, drop, length, map, Option, IsSomeAnd}
 use Rattle.daachorse_model.specs.declared.Match.{Match}
 use Rattle.daachorse_model.specs.declared.MatchKind.{MatchKind}
 use Rattle.daachorse_model.specs.declared.MatchKind.TheVariants.{Standard, LeftmostLongest, LeftmostFirst}
@@ -10,10 +10,11 @@ use Rattle.daachorse_c.specs.declared.found.CMatch.{CMatch}
 use Rattle.daachorse_c.specs.declared.place.Place.{Place}
 use Rattle.daachorse_c.specs.declared.refusal.Refusal.{Refusal}
 use Rattle.daachorse_c.specs.declared.refusal.Refusal.TheVariants.{WrongPlace}
-use Rattle.daachorse_c.specs.Automata.{Automaton, Reads, dictionary_of, kind_of, text_read, width_of}
+use Rattle.daachorse_c.specs.Automata.{Automaton, Reads, dictionary_of, kind_of, text_read, unit_of, width_of}
 use Rattle.daachorse_c.specs.Held.{Held}
 use Rattle.daachorse_c.specs.Refusals.{IsDoneOr}
 use Rattle.daachorse_c.specs.Searches.{IsUnreadCause, IsUseCause}
+use Rattle.daachorse_c.specs.Units.{units_in}
 use Rattle.daachorse_c.specs.Writes.{Writes}
 
 -- the matches that do not overlap in what is left of a haystack, which begins at the place: of a leftmost search no empty one there, if a nonempty one ends there
@@ -43,11 +44,31 @@ pub record StandsBehind (m : Match ℕ) (step size : ℕ) (p : Place) : Type 0 w
   pub last : m.end ≤ m.start → m.end ≡ size → p ≡ record { at = m.end; after = false; over = true }
   pub within : p.at ≤ size
 
--- the first of them were written, and the search goes on behind these
-pub record GoesOn (a : Automaton) (haystack : List ℕ) (p q : Place) (old new : List CMatch) (written : ℕ) : Type 0 where
-  pub reads : Reads a haystack
-  pub writes : Writes (left_of a haystack p) old new written
-  pub left : left_of a haystack q ≡ drop written (left_of a haystack p)
+module _ (a : Automaton) (haystack : List ℕ) where
+  -- the unit at a place in the haystack has so many bytes
+  abbrev pub IsStep : ℕ → ℕ → Type 0
+  IsStep at step = (u : ℕ) (rest : List ℕ) → units_in (unit_of a) (drop at haystack) ≡ u ∷ rest → step ≡ width_of a u
+
+  -- the place is behind the match: at its end, or one unit behind an empty one
+  pub record IsBehind (m : Match ℕ) (q : Place) : Type 0 where
+    pub step : ℕ
+    pub one : IsStep m.end step
+    pub stands : StandsBehind m step (length haystack) q
+
+  -- Where a search from p stands after so many matches: it is over if there was room for more, and else behind the last, or where it was.
+  pub record StandsAfter (p q : Place) (room written : ℕ) : Type 0 where
+    pub within : IsPlaceIn a haystack q.at
+    pub over : written < room → q.over ≡ true
+    pub still : room ≡ 0 → q ≡ p
+    pub last : (n : ℕ) → written ≡ n + 1 → written ≡ room
+        → (m : Match ℕ) × (drop n (left_of a haystack p) ≡ m ∷ left_of a haystack q) × IsBehind m q
+
+  -- the first of the matches that were left were written, and the search goes on behind these
+  pub record GoesOn (p q : Place) (old new : List CMatch) (written : ℕ) : Type 0 where
+    pub reads : Reads a haystack
+    pub writes : Writes (left_of a haystack p) old new written
+    pub left : left_of a haystack q ≡ drop written (left_of a haystack p)
+    pub stands : StandsAfter p q (length old) written
 
 -- why a search does not go on from a place in a haystack
 abbrev pub IsStuckCause : List ℕ → Automaton → Place → Refusal → Type 0

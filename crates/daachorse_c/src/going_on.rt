@@ -1,12 +1,11 @@
 //! Searches that go on from a place, for matches that do not overlap.
 
-ghost use Rattle.std.specs.Prelude.{◌≡◌, ◌≢◌, ◌↔◌, ◌≤◌, [], ◌∷◌, ℕ, List, false, true, IfNone, IfSome, IsTrue, drop, slice_get};
+ghost use Rattle.std.specs.Prelude.{◌≡◌, ◌≢◌, ◌↔◌, ◌≤◌, [], ◌∷◌, false, true, IfNone, IfSome, IsTrue, drop, length, slice_get};
 ghost use Rattle.daachorse_model.specs.declared.MatchKind.TheVariants.{Standard};
 ghost use Rattle.daachorse_replacing.specs.ByKind.{non_overlapping};
-ghost use Rattle.daachorse_c.specs.Automata.{dictionary_of, kind_of, text_read, unit_of, width_of};
+ghost use Rattle.daachorse_c.specs.Automata.{dictionary_of, kind_of, text_read, width_of};
 ghost use Rattle.daachorse_c.specs.Held.{haystack_of, searched};
-ghost use Rattle.daachorse_c.specs.Places.{IsPlaceIn, afresh, left_of};
-ghost use Rattle.daachorse_c.specs.Units.{units_in};
+ghost use Rattle.daachorse_c.specs.Places.{IsBehind, IsPlaceIn, IsStep, StandsAfter, afresh, left_of};
 ghost use Rattle.daachorse_c.specs.Writes.{Writes};
 
 use crate::found::CMatch;
@@ -21,6 +20,7 @@ impl<'a> Search<'a> {
         requires { IsPlaceIn (searched self.now) (haystack_of self.now) place.old.at }
         ensures writes { Writes (left_of (searched self.now) (haystack_of self.now) place.old) out.old out.new result }
         ensures left { left_of (searched self.now) (haystack_of self.now) place.new ≡ drop result (left_of (searched self.now) (haystack_of self.now) place.old) }
+        ensures stands { StandsAfter (searched self.now) (haystack_of self.now) place.old place.new (length out.old) result }
     {
         let mut written = 0;
         while written < out.len() {
@@ -38,7 +38,9 @@ impl<'a> Search<'a> {
         requires { IsPlaceIn (searched self.now) (haystack_of self.now) place.old.at }
         ensures within { IsPlaceIn (searched self.now) (haystack_of self.now) place.new.at }
         ensures none { IfNone result ((left_of (searched self.now) (haystack_of self.now) place.old ≡ []) × (left_of (searched self.now) (haystack_of self.now) place.new ≡ [])) }
+        ensures over { IfNone result (place.new.over ≡ true) }
         ensures some { IfSome result (λ m. left_of (searched self.now) (haystack_of self.now) place.old ≡ m ∷ left_of (searched self.now) (haystack_of self.now) place.new) }
+        ensures behind { IfSome result (λ m. IsBehind (searched self.now) (haystack_of self.now) m place.new) }
     {
         let at = place.at;
         let after = place.after;
@@ -64,6 +66,7 @@ impl<'a> Search<'a> {
         ensures within { IsPlaceIn (searched self.now) (haystack_of self.now) place.new.at }
         ensures none { IfNone result ((left_of (searched self.now) (haystack_of self.now) (afresh place.old) ≡ []) × (place.new.over ≡ true)) }
         ensures some { IfSome result (λ m. left_of (searched self.now) (haystack_of self.now) (afresh place.old) ≡ m ∷ left_of (searched self.now) (haystack_of self.now) place.new) }
+        ensures behind { IfSome result (λ m. IsBehind (searched self.now) (haystack_of self.now) m place.new) }
         ensures end { IfSome result (λ m. place.old.at ≤ m.end) }
         ensures clear { IfSome result (λ m. m.end ≡ place.old.at → place.new.after ≡ false) }
     {
@@ -93,7 +96,7 @@ impl<'a> Search<'a> {
     /// The number of bytes of the unit at a place, or 0 if there is none.
     fn unit_len(&self, at: usize) -> usize
         requires { IsPlaceIn (searched self.now) (haystack_of self.now) at }
-        ensures { (u : ℕ) (rest : List ℕ) → units_in (unit_of (searched self.now)) (drop at (haystack_of self.now)) ≡ u ∷ rest → result ≡ width_of (searched self.now) u }
+        ensures { IsStep (searched self.now) (haystack_of self.now) at result }
     {
         match self.part(at) {
             Some(rest) => rest.first_len(),

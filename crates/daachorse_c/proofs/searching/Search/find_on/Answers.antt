@@ -1,5 +1,5 @@
 -- Each match is written behind those before it.
-use Rattle.std.proofs.Common.{◌<◌, length, refl, sym, ◌∙◌, arith}
+use Rattle.std.proofs.Common.{◌≡◌, ◌<◌, drop, length, refl, sym, ap, ◌∙◌, arith}
 use Rattle.std.proofs.lemmas.List.{length-set}
 use Rattle.daachorse_c.specs.Held.{haystack_of, searched}
 use Rattle.daachorse_c.specs.Places.{left_of}
@@ -7,7 +7,13 @@ use Rattle.daachorse_c.proofs.Told.{Writes-from_told, told-one, told_nothing}
 use Rattle.daachorse_c.proofs.searching.Search.find_on.Goals as goal
 
 pub loop-written-init : goal.loop-written-init
-loop-written-init c = record { within = c.requires; long = refl; told = told_nothing _ _ }
+loop-written-init c = record {
+  within = c.requires;
+  long = refl;
+  told = told_nothing _ _;
+  still = λ none. refl;
+  last = λ n none. absurd (omega (arith, none));
+}
 
 pub loop-written-preserved : goal.loop-written-preserved
 loop-written-preserved c =
@@ -17,6 +23,11 @@ loop-written-preserved c =
       within = next.within;
       long = length-set _ _ _ ∙ i.long;
       told = rw c.of.ensures (told-one c.in-Some.found (left_of (searched c.args.self.now) (haystack_of c.args.self.now) c.next_match.new.place) i.told next.some lt);
+      still = λ none. absurd (omega (arith, none));
+      last = λ n is.
+          let same : c.loop-written.written ≡ n = omega (arith, is) in
+          let all = left_of (searched c.args.self.now) (haystack_of c.args.self.now) c.args.place.now in
+          (c.in-Some.found, ap (λ w. drop w all) (sym same) ∙ i.told.left ∙ next.some, next.behind);
     }
 
 pub returns-clause-writes : goal.returns-clause-writes
@@ -29,3 +40,22 @@ returns-clause-left c = sym c.loop-written.invariant.told.left
 
 pub returns-in_default-clause-writes : goal.returns-in_default-clause-writes
 returns-in_default-clause-writes c = Writes-from_told c.loop-written.invariant.told (λ _. c.in_default.ensures.none.0)
+
+pub returns-clause-stands : goal.returns-clause-stands
+returns-clause-stands c =
+    let i = c.loop-written.invariant in record {
+      within = i.within;
+      over = λ lt. absurd (omega (arith, lt, i.long, c.loop-written-test.false));
+      still = λ none. i.still (omega (arith, none, i.told.room));
+      last = λ n is full. i.last n is;
+    }
+
+pub returns-in_default-clause-stands : goal.returns-in_default-clause-stands
+returns-in_default-clause-stands c =
+    let i = c.loop-written.invariant in
+    let lt : c.loop-written.written < length c.args.out.now = omega (arith, i.long, c.loop-written-test.true) in record {
+      within = c.in_default.ensures.within;
+      over = λ _. c.in_default.ensures.over;
+      still = λ none. absurd (omega (arith, none, lt));
+      last = λ n is full. absurd (omega (arith, full, lt));
+    }

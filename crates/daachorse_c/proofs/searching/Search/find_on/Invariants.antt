@@ -1,7 +1,8 @@
 -- What is written so far, and what is left.
-use Rattle.std.proofs.Common.{◌≡◌, ◌-◌, length}
+use Rattle.std.proofs.Common.{◌≡◌, ℕ, ◌+◌, ◌-◌, ◌∷◌, drop, length}
+use Rattle.daachorse_model.specs.declared.Match.{Match}
 use Rattle.daachorse_c.specs.Held.{haystack_of, searched}
-use Rattle.daachorse_c.specs.Places.{IsPlaceIn, left_of}
+use Rattle.daachorse_c.specs.Places.{IsBehind, IsPlaceIn, left_of}
 use Rattle.daachorse_c.proofs.Told.{Told}
 use Rattle.daachorse_c.proofs.searching.Search.find_on.Given as goal
 
@@ -11,6 +12,9 @@ invariant-loop-written l =
       within : IsPlaceIn a h l.place.at;
       long : length l.out ≡ length l.fn.out;
       told : Told (left_of a h l.fn.place) (left_of a h l.place) l.fn.out l.out l.written;
+      still : l.written ≡ 0 → l.place ≡ l.fn.place;
+      last : (n : ℕ) → l.written ≡ n + 1
+          → (m : Match ℕ) × (drop n (left_of a h l.fn.place) ≡ m ∷ left_of a h l.place) × IsBehind a h m l.place;
     }
 
 abbrev pub decreases-loop-written : goal.decreases-loop-written

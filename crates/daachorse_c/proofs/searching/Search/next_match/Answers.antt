@@ -33,3 +33,18 @@ pub returns-clause-some : goal.returns-clause-some
 returns-clause-some c =
     let a = searched c.args.self.now in let h = haystack_of c.args.self.now in
     left_kept a h c.args.place.now c.in-Some.found _ c.in-Some.ensures.some c.in-Some.ensures.end (λ is. false≢true (sym c.if-leaves_out.false ∙ c.leaves_out.ensures.1 is))
+
+pub returns-in_default-clause-over : goal.returns-in_default-clause-over
+returns-in_default-clause-over c = c.in_default.ensures.none.1
+
+pub returns-then-leaves_out-clause-over : goal.returns-then-leaves_out-clause-over
+returns-then-leaves_out-clause-over c =
+    let a = searched c.args.self.now in let h = haystack_of c.args.self.now in let again = c.pass_first-then-leaves_out in
+    none_weaker again.result ((left_of a h (afresh c.pass_first.new.place) ≡ []) × (again.new.place.over ≡ true)) (again.new.place.over ≡ true)
+    (λ x. x.1) again.ensures.none
+
+pub returns-then-leaves_out-clause-behind : goal.returns-then-leaves_out-clause-behind
+returns-then-leaves_out-clause-behind c = c.pass_first-then-leaves_out.ensures.behind
+
+pub returns-clause-behind : goal.returns-clause-behind
+returns-clause-behind c = c.in-Some.ensures.behind

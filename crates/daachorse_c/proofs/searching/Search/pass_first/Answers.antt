@@ -50,3 +50,12 @@ returns-clause-some c =
     rw c.pass.ensures.found
     (pass_some a h p c.if-place.false c.in-Some.found first.0 first.1 f c.unit_len-step.result c.pass.new.self c.unit_len-step.ensures
     (rw (← c.len-len.ensures, ← c.pass.ensures.found) c.pass.ensures.behind)).1
+
+pub returns-clause-behind : goal.returns-clause-behind
+returns-clause-behind c =
+    rw c.pass.ensures.found
+    record {
+      step = c.unit_len-step.result;
+      one = c.unit_len-step.ensures;
+      stands = rw (← c.len-len.ensures, ← c.pass.ensures.found) c.pass.ensures.behind;
+    }

@@ -14,6 +14,7 @@ mod Places
 mod Pushing
 mod ReadBack
 mod Registrations
+mod Rows
 mod Saving
 mod StandardOn
 mod Steppers

@@ -3,8 +3,10 @@ use Rattle.std.specs.Prelude.{ℕ, Bool, List}
 use Rattle.daachorse_model.specs.declared.MatchKind.{MatchKind}
 use Rattle.daachorse_model.specs.Dictionary.{Dictionary}
 use Rattle.daachorse_model.specs.Folding.{as_read}
-use Rattle.daachorse_bytewise.specs.Automata.{Automaton as Bytewise, dictionary_of as dictionary_in_bytes}
-use Rattle.daachorse_charwise.specs.Automata.{Automaton as Charwise, dictionary_of as dictionary_in_characters}
+use Rattle.daachorse_bytewise_states.specs.StateRows.{HasNoRoom as HasNoRoomInBytes}
+use Rattle.daachorse_bytewise.specs.Automata.{Automaton as Bytewise, dictionary_of as dictionary_in_bytes, states_of as states_in_bytes}
+use Rattle.daachorse_charwise_states.specs.StateRows.{HasNoRoom as HasNoRoomInCharacters}
+use Rattle.daachorse_charwise.specs.Automata.{Automaton as Charwise, dictionary_of as dictionary_in_characters, states_of as states_in_characters}
 use Rattle.daachorse_c.specs.declared.unit.Unit.{Unit}
 use Rattle.daachorse_c.specs.declared.unit.Unit.TheVariants.{Byte, Character}
 use Rattle.daachorse_c.specs.Units.{IsTextIn, units_in, width_in}
@@ -28,6 +30,11 @@ folds_of (Characters a) = a.folds
 abbrev pub dictionary_of : Automaton → Dictionary ℕ
 dictionary_of (Bytes a) = dictionary_in_bytes a
 dictionary_of (Characters a) = dictionary_in_characters a
+
+-- there is no room for rows of the states near its root
+abbrev pub HasNoRoom : Automaton → Type 0
+HasNoRoom (Bytes a) = HasNoRoomInBytes (states_in_bytes a)
+HasNoRoom (Characters a) = HasNoRoomInCharacters (states_in_characters a)
 
 module _ (a : Automaton) where
   -- how many bytes each of its units takes

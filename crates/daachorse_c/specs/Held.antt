@@ -1,5 +1,5 @@
--- What a handle keeps: an automaton, and a stream that goes on in it, if there is one.
-use Rattle.std.specs.Prelude.{ℕ, List, Option}
+-- What a handle keeps: an automaton, whether it has rows, and a stream that goes on in it, if there is one.
+use Rattle.std.specs.Prelude.{ℕ, Bool, true, false, List, Option}
 use Rattle.daachorse_bytewise.specs.Automata.{Automaton as OverBytes}
 use Rattle.daachorse_charwise.specs.Automata.{Automaton as OverCharacters}
 use Rattle.daachorse_c.specs.declared.bytewise.Bytewise.{Bytewise}
@@ -28,6 +28,19 @@ abbrev pub automaton_of : Searches → Automaton
 automaton_of (InBytes s) = Bytes (over_bytes s)
 automaton_of (InCharacters s) = Characters (over_characters s)
 
+-- what searches has rows of the states near the root
+abbrev pub has_byte_rows : Bytewise → Bool
+has_byte_rows (Plain automaton) = false
+has_byte_rows (Rowed rowed) = true
+
+abbrev pub has_character_rows : Charwise → Bool
+has_character_rows (PlainText automaton) = false
+has_character_rows (RowedText rowed) = true
+
+abbrev pub has_rows : Searches → Bool
+has_rows (InBytes s) = has_byte_rows s
+has_rows (InCharacters s) = has_character_rows s
+
 -- the automaton that searches a haystack, and the bytes of the haystack
 abbrev pub searched : Search → Automaton
 searched (OfBytes s haystack) = Bytes (over_bytes s.now)
@@ -44,4 +57,5 @@ stream_of (StreamOfCharacters s) = s
 
 pub record Held : Type 0 where
   pub searches : Automaton
+  pub rows : Bool
   pub stream : Option (Stream ℕ)

@@ -18,6 +18,7 @@ pub record HasBegun (number : ℕ) (old new : Held) : Type 0 where
   pub kind : StreamKind
   pub numbered : stream_number kind ≡ number
   pub kept : new.searches ≡ old.searches
+  pub rows : new.rows ≡ old.rows
   pub begins : IsSomeAnd new.stream (IsAtBeginning kind)
 
 -- the search with this number does not serve automata of this kind
@@ -35,6 +36,7 @@ IsBeginCause number held r = IsUseCause held r ⊎ IsSomeAnd held (λ a. IsNotBe
 -- the automaton is as before, and its stream has told what comes next
 pub record HasConsumed (bytes : List ℕ) (old new : Held) (out_old out_new : List CMatch) (done : Done) : Type 0 where
   pub kept : new.searches ≡ old.searches
+  pub rows : new.rows ≡ old.rows
   pub tells : IsSomeAnd old.stream (λ s. IsSomeAnd new.stream (λ t. Tells old.searches bytes s t out_old out_new done))
 
 -- why there is no stream to go on
@@ -58,6 +60,7 @@ pub record IsConsumption (bytes : List ℕ) (old new : Option Held) (out_old out
 -- the automaton is as before, and its stream has ended
 pub record HasEnded (old new : Held) : Type 0 where
   pub kept : new.searches ≡ old.searches
+  pub rows : new.rows ≡ old.rows
   pub ended : IsSomeAnd old.stream (λ s. new.stream ≡ Some (record s { ended = true }))
 
 -- why an automaton's stream does not end

@@ -1,12 +1,12 @@
 //! What a handle holds, and the calls on it.
 
-ghost use Rattle.std.specs.Prelude.{◌≡◌, ◌≢◌, ◌↔◌, [], None, IfErr, IfOk, IsTrue, OnErr, OnOk, length};
+ghost use Rattle.std.specs.Prelude.{◌≡◌, ◌≢◌, ◌↔◌, [], None, IfErr, IfOk, IsTrue, OnErr, OnOk, false, length};
 ghost use Rattle.std.specs.Arc.{arc_value};
 ghost use Rattle.daachorse_model.specs.Kinds.{byte_of_kind};
 ghost use Rattle.daachorse_c.specs.declared.refusal.Refusal.TheVariants.{OutOfMemory};
-ghost use Rattle.daachorse_c.specs.Automata.{folds_of, kind_of};
+ghost use Rattle.daachorse_c.specs.Automata.{HasNoRoom, folds_of, kind_of};
 ghost use Rattle.daachorse_c.specs.Counts.{AreCounts};
-ghost use Rattle.daachorse_c.specs.Held.{automaton_of};
+ghost use Rattle.daachorse_c.specs.Held.{automaton_of, has_rows};
 ghost use Rattle.daachorse_c.specs.Listing.{IsNotListed, HasListed, arrays};
 ghost use Rattle.daachorse_c.specs.Places.{GoesOn, IsStuckCause};
 ghost use Rattle.daachorse_c.specs.Replacing.{HasReplaced, IsNotReplaced};
@@ -40,12 +40,12 @@ pub struct Searcher {
 impl Model for Searcher {
     ghost use Rattle.std.specs.Prelude.{IfSome, option_map};
     ghost use Rattle.std.specs.Arc.{arc_value};
-    ghost use Rattle.daachorse_c.specs.Held.{Held, automaton_of, stream_of};
+    ghost use Rattle.daachorse_c.specs.Held.{Held, automaton_of, has_rows, stream_of};
     ghost use Rattle.daachorse_c.specs.Through.{GoesThrough};
 
     ghost Value = { Held };
 
-    ghost view = { λ a. record { searches = automaton_of (arc_value a.searches); stream = option_map stream_of a.stream } };
+    ghost view = { λ a. record { searches = automaton_of (arc_value a.searches); rows = has_rows (arc_value a.searches); stream = option_map stream_of a.stream } };
 
     ghost invariant = { λ a. IfSome a.stream (GoesThrough (automaton_of (arc_value a.searches))) };
 }
@@ -64,6 +64,7 @@ impl Searcher {
     /// Fails only if an allocation fails.
     pub(crate) fn accelerate(&self, alloc: Global) -> Result<Box<Searcher, Global>, Refusal>
         ensures searches { IfOk result (λ b. b.value.searches ≡ self.now.searches) }
+        ensures rows { IfOk result (λ b. b.value.rows ≡ false → HasNoRoom self.now.searches) }
         ensures stream { IfOk result (λ b. b.value.stream ≡ None) }
         ensures err { IfErr result (λ r. r ≡ OutOfMemory) }
     {
@@ -96,6 +97,7 @@ impl Searcher {
     /// Another searcher of the same automaton, with no stream. Fails only if an allocation fails.
     pub(crate) fn share(&self, alloc: Global) -> Result<Box<Searcher, Global>, Refusal>
         ensures searches { IfOk result (λ b. b.value.searches ≡ self.now.searches) }
+        ensures rows { IfOk result (λ b. b.value.rows ≡ self.now.rows) }
         ensures stream { IfOk result (λ b. b.value.stream ≡ None) }
         ensures err { IfErr result (λ r. r ≡ OutOfMemory) }
     {
@@ -107,6 +109,7 @@ impl Searcher {
         searches: Arc<Searches, Global>,
     ) -> Result<Box<Searcher, Global>, Refusal>
         ensures searches { IfOk result (λ b. b.value.searches ≡ automaton_of (arc_value searches)) }
+        ensures rows { IfOk result (λ b. b.value.rows ≡ has_rows (arc_value searches)) }
         ensures stream { IfOk result (λ b. b.value.stream ≡ None) }
         ensures err { IfErr result (λ r. r ≡ OutOfMemory) }
     {

@@ -1,14 +1,16 @@
 //! An automaton over bytes, alone or with rows of the states near its root.
 
-ghost use Rattle.std.specs.Prelude.{◌≡◌, ◌≢◌, ◌↔◌, [], IfErr, IfOk, IsTrue, slice_get};
+ghost use Rattle.std.specs.Prelude.{◌≡◌, ◌≢◌, ◌↔◌, [], Err, IfErr, IfOk, IfSome, IsTrue, None, Ok, false, slice_get};
 ghost use Rattle.daachorse_model.specs.Folding.{as_read};
 ghost use Rattle.daachorse_model.specs.Matches.{overlapping};
 ghost use Rattle.daachorse_model.specs.Units.{byte_width};
-ghost use Rattle.daachorse_bytewise.specs.Automata.{dictionary_of, kind_of};
+ghost use Rattle.daachorse_bytewise_states.specs.StateRows.{HasNoRoom};
+ghost use Rattle.daachorse_bytewise.specs.Automata.{dictionary_of, kind_of, states_of};
 ghost use Rattle.daachorse_replacing.specs.ByKind.{non_overlapping};
 ghost use Rattle.daachorse_c.specs.declared.refusal.Refusal.TheVariants.{OutOfMemory};
 ghost use Rattle.daachorse_c.specs.declared.search.SearchKind.TheVariants.{Whole};
-ghost use Rattle.daachorse_c.specs.Held.{over_bytes};
+ghost use Rattle.daachorse_c.specs.Held.{has_byte_rows, over_bytes};
+ghost use Rattle.daachorse_c.specs.Refusals.{refusal_of};
 ghost use Rattle.daachorse_c.specs.Searches.{ServesKind, found_by};
 ghost use Rattle.daachorse_c.specs.Writes.{Writes};
 
@@ -33,9 +35,25 @@ impl Bytewise {
     /// fails.
     pub(crate) fn accelerated(&self, alloc: Global) -> Result<Bytewise, Refusal>
         ensures same { IfOk result (λ s. over_bytes s ≡ over_bytes self.now) }
+        ensures rows { IfOk result (λ s. has_byte_rows s ≡ false → HasNoRoom (states_of (over_bytes self.now))) }
         ensures err { IfErr result (λ r. r ≡ OutOfMemory) }
     {
-        match self.automaton().clone()?.accelerate(alloc) {
+        Bytewise::of_answer(self.automaton().clone()?.accelerate(alloc))
+    }
+
+    /// The automaton with its rows, or alone if it is too large for them. Fails if an allocation
+    /// failed.
+    fn of_answer(
+        answer: Result<
+            Accelerated<u32, Global>,
+            AccelerateError<DoubleArrayAhoCorasick<u32, Global>>,
+        >,
+    ) -> Result<Bytewise, Refusal>
+        ensures rowed { IfOk answer (λ a. result ≡ Ok (Bytewise.Rowed a)) }
+        ensures plain { IfErr answer (λ e. e.refusal ≡ None → result ≡ Ok (Bytewise.Plain e.automaton)) }
+        ensures err { IfErr answer (λ e. IfSome e.refusal (λ error. result ≡ Err (refusal_of error))) }
+    {
+        match answer {
             Ok(rowed) => Ok(Bytewise::Rowed(rowed)),
             Err(AccelerateError { automaton, refusal }) => match refusal {
                 None => Ok(Bytewise::Plain(automaton)),

@@ -1,15 +1,17 @@
 //! An automaton over characters, alone or with rows of the states near its root.
 
-ghost use Rattle.std.specs.Prelude.{◌≡◌, ◌≢◌, ◌↔◌, [], IfErr, IfOk, IsTrue, slice_get};
+ghost use Rattle.std.specs.Prelude.{◌≡◌, ◌≢◌, ◌↔◌, [], Err, IfErr, IfOk, IfSome, IsTrue, None, Ok, false, slice_get};
 ghost use Rattle.std.specs.Str.{chars};
 ghost use Rattle.daachorse_model.specs.Folding.{as_read};
 ghost use Rattle.daachorse_model.specs.Matches.{overlapping};
 ghost use Rattle.daachorse_model.specs.Units.{char_width};
-ghost use Rattle.daachorse_charwise.specs.Automata.{dictionary_of, kind_of};
+ghost use Rattle.daachorse_charwise_states.specs.StateRows.{HasNoRoom};
+ghost use Rattle.daachorse_charwise.specs.Automata.{dictionary_of, kind_of, states_of};
 ghost use Rattle.daachorse_replacing.specs.ByKind.{non_overlapping};
 ghost use Rattle.daachorse_c.specs.declared.refusal.Refusal.TheVariants.{OutOfMemory};
 ghost use Rattle.daachorse_c.specs.declared.search.SearchKind.TheVariants.{Whole};
-ghost use Rattle.daachorse_c.specs.Held.{over_characters};
+ghost use Rattle.daachorse_c.specs.Held.{has_character_rows, over_characters};
+ghost use Rattle.daachorse_c.specs.Refusals.{refusal_of};
 ghost use Rattle.daachorse_c.specs.Searches.{ServesKind, found_by};
 ghost use Rattle.daachorse_c.specs.Writes.{Writes};
 
@@ -34,9 +36,25 @@ impl Charwise {
     /// fails.
     pub(crate) fn accelerated(&self, alloc: Global) -> Result<Charwise, Refusal>
         ensures same { IfOk result (λ s. over_characters s ≡ over_characters self.now) }
+        ensures rows { IfOk result (λ s. has_character_rows s ≡ false → HasNoRoom (states_of (over_characters self.now))) }
         ensures err { IfErr result (λ r. r ≡ OutOfMemory) }
     {
-        match self.automaton().clone()?.accelerate(alloc) {
+        Charwise::of_answer(self.automaton().clone()?.accelerate(alloc))
+    }
+
+    /// The automaton with its rows, or alone if it is too large for them. Fails if an allocation
+    /// failed.
+    fn of_answer(
+        answer: Result<
+            Accelerated<u32, Global>,
+            AccelerateError<CharwiseDoubleArrayAhoCorasick<u32, Global>>,
+        >,
+    ) -> Result<Charwise, Refusal>
+        ensures rowed { IfOk answer (λ a. result ≡ Ok (Charwise.Rowed a)) }
+        ensures plain { IfErr answer (λ e. e.refusal ≡ None → result ≡ Ok (Charwise.Plain e.automaton)) }
+        ensures err { IfErr answer (λ e. IfSome e.refusal (λ error. result ≡ Err (refusal_of error))) }
+    {
+        match answer {
             Ok(rowed) => Ok(Charwise::Rowed(rowed)),
             Err(AccelerateError { automaton, refusal }) => match refusal {
                 None => Ok(Charwise::Plain(automaton)),

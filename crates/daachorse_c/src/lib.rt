@@ -9,7 +9,7 @@ ghost use Rattle.std.specs.Prelude.{◌≡◌, ◌≢◌, None, Some, IsNone, Is
 ghost use Rattle.daachorse_model.specs.Kinds.{byte_of_kind};
 ghost use Rattle.daachorse_c.specs.declared.unit.Unit.TheVariants.{Byte};
 ghost use Rattle.daachorse_c.specs.declared.search.SearchKind.TheVariants.{Find, Leftmost, NoSuffix, Overlapping, Prefixes, Whole};
-ghost use Rattle.daachorse_c.specs.Automata.{folds_of, kind_of};
+ghost use Rattle.daachorse_c.specs.Automata.{HasNoRoom, folds_of, kind_of};
 ghost use Rattle.daachorse_c.specs.Building.{IsBuildCause, IsBuiltFrom, settings_over_bytes};
 ghost use Rattle.daachorse_c.specs.Characters.{in_characters};
 ghost use Rattle.daachorse_c.specs.Counts.{AreCounts};
@@ -149,6 +149,7 @@ pub extern "C" fn daachorse_build_with(
 pub extern "C" fn daachorse_share(alloc: Global, handle: &mut Handle, other: &mut Handle) -> u32
     ensures kept { handle.new.automaton ≡ handle.old.automaton }
     ensures shared { result ≡ 0 → IsSomeAnd handle.old.automaton (λ a. IsSomeAnd other.new.automaton (λ b. b.searches ≡ a.searches)) }
+    ensures rows { result ≡ 0 → IsSomeAnd handle.old.automaton (λ a. IsSomeAnd other.new.automaton (λ b. b.rows ≡ a.rows)) }
     ensures stream { result ≡ 0 → IsSomeAnd other.new.automaton (λ b. b.stream ≡ None) }
     ensures refused { IsDoneOr (IsShareCause handle.old.automaton) result }
     ensures unchanged { result ≢ 0 → other.new.automaton ≡ other.old.automaton }
@@ -177,6 +178,7 @@ pub extern "C" fn daachorse_accelerate(
 ) -> u32
     ensures kept { handle.new.automaton ≡ handle.old.automaton }
     ensures same { result ≡ 0 → IsSomeAnd handle.old.automaton (λ a. IsSomeAnd other.new.automaton (λ b. b.searches ≡ a.searches)) }
+    ensures rows { result ≡ 0 → IsSomeAnd handle.old.automaton (λ a. IsSomeAnd other.new.automaton (λ b. b.rows ≡ false → HasNoRoom a.searches)) }
     ensures stream { result ≡ 0 → IsSomeAnd other.new.automaton (λ b. b.stream ≡ None) }
     ensures refused { IsDoneOr (IsShareCause handle.old.automaton) result }
     ensures unchanged { result ≢ 0 → other.new.automaton ≡ other.old.automaton }

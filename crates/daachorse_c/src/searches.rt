@@ -1,10 +1,10 @@
 //! The automaton that handles share, over bytes or over characters.
 
-ghost use Rattle.std.specs.Prelude.{◌≡◌, IfErr, IfOk};
+ghost use Rattle.std.specs.Prelude.{◌≡◌, IfErr, IfOk, false};
 ghost use Rattle.daachorse_c.specs.declared.refusal.Refusal.TheVariants.{InvalidUtf8, OutOfMemory};
-ghost use Rattle.daachorse_c.specs.Automata.{Reads, folds_of, kind_of};
+ghost use Rattle.daachorse_c.specs.Automata.{HasNoRoom, Reads, folds_of, kind_of};
 ghost use Rattle.daachorse_c.specs.Counts.{AreCounts};
-ghost use Rattle.daachorse_c.specs.Held.{automaton_of, haystack_of, searched};
+ghost use Rattle.daachorse_c.specs.Held.{automaton_of, has_rows, haystack_of, searched};
 ghost use Rattle.daachorse_c.specs.Written.{IsWhole, form_of};
 
 use crate::bytewise::Bytewise;
@@ -28,6 +28,7 @@ impl Searches {
     /// A copy with rows, unless it is too large. Fails only if an allocation fails.
     pub(crate) fn accelerated(&self, alloc: Global) -> Result<Searches, Refusal>
         ensures same { IfOk result (λ s. automaton_of s ≡ automaton_of self.now) }
+        ensures rows { IfOk result (λ s. has_rows s ≡ false → HasNoRoom (automaton_of self.now)) }
         ensures err { IfErr result (λ r. r ≡ OutOfMemory) }
     {
         match self {

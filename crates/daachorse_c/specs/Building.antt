@@ -53,6 +53,7 @@ module _ (s : Settings) (bytes ends values : List ℕ) where
   -- why a build is refused
   abbrev pub IsBuildCause : Refusal → Type 0
   IsBuildCause r =
-      (r ≡ OutOfMemory) ⊎ ((r ≡ UnknownKind) × ((k : MatchKind) → byte_of_kind k ≢ s.kind)) ⊎ ((r ≡ WrongPatterns) × ¬ ArePatterns bytes ends values)
+      ((r ≡ OutOfMemory) × ((k : MatchKind) × (byte_of_kind k ≡ s.kind))) ⊎ ((r ≡ UnknownKind) × ((k : MatchKind) → byte_of_kind k ≢ s.kind))
+      ⊎ ((r ≡ WrongPatterns) × ¬ ArePatterns bytes ends values)
       ⊎ ((r ≡ InvalidUtf8) × ¬ AreTexts s.unit (registrations bytes 0 ends values))
       ⊎ ((e : DaachorseError) × (r ≡ refusal_of e) × IsLibraryRefusal e)

@@ -30,4 +30,4 @@ module _ (o : Options) (bytes ends values : List ℕ) where
 
   -- why such a build is refused
   abbrev pub IsOptionsCause : Refusal → Type 0
-  IsOptionsCause r = ((r ≡ UnknownOption) × ¬ AreKnown o) ⊎ IsBuildCause (settings_of o) bytes ends values r
+  IsOptionsCause r = ((r ≡ UnknownOption) × ¬ AreKnown o) ⊎ (AreKnown o × IsBuildCause (settings_of o) bytes ends values r)

@@ -64,7 +64,7 @@ IsUseCause held r = (r ≡ EmptyHandle) × IsNone held
 
 -- why an automaton is not shared
 abbrev pub IsShareCause : Option Held → Refusal → Type 0
-IsShareCause held r = IsUseCause held r ⊎ (r ≡ OutOfMemory)
+IsShareCause held r = IsUseCause held r ⊎ IsSomeAnd held (λ _. r ≡ OutOfMemory)
 
 -- why an automaton does not read a haystack
 abbrev pub IsUnreadCause : List ℕ → Automaton → Refusal → Type 0

@@ -27,7 +27,9 @@ IsOfWrongKind number a = (kind : StreamKind) × (stream_number kind ≡ number) 
 
 -- why an automaton begins no stream
 abbrev pub IsNotBegun : ℕ → Held → Refusal → Type 0
-IsNotBegun number a r = ((r ≡ UnknownSearch) × IsUnknownSearch number) ⊎ ((r ≡ WrongKind) × IsOfWrongKind number a) ⊎ ((r ≡ OutOfMemory) × (stream_number Leftmost ≡ number))
+IsNotBegun number a r =
+    ((r ≡ UnknownSearch) × IsUnknownSearch number) ⊎ ((r ≡ WrongKind) × IsOfWrongKind number a)
+    ⊎ ((r ≡ OutOfMemory) × (stream_number Leftmost ≡ number) × ServesKind (search_of Leftmost) (kind_of a.searches))
 
 -- why a call to begin a stream is refused
 abbrev pub IsBeginCause : ℕ → Option Held → Refusal → Type 0

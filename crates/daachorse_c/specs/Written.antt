@@ -67,4 +67,4 @@ IsReadCause unit bytes r = (r ≡ OutOfMemory) ⊎ ((r ≡ InvalidAutomaton) × 
 
 -- why bytes are not read as an automaton over the unit with this number
 abbrev pub IsReadWithCause : ℕ → List ℕ → Refusal → Type 0
-IsReadWithCause unit bytes r = ((r ≡ UnknownOption) × (1 < unit)) ⊎ IsReadCause (unit_numbered unit) bytes r
+IsReadWithCause unit bytes r = ((r ≡ UnknownOption) × (1 < unit)) ⊎ ((unit ≤ 1) × IsReadCause (unit_numbered unit) bytes r)

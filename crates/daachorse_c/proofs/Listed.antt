@@ -2,7 +2,9 @@
 use Rattle.std.proofs.Common.{◌≡◌, ℕ, ◌+◌, ◌-◌, ◌≤◌, List, [], ◌∷◌, ◌++◌, length, drop, take, slice_range, refl, ap, ◌∙◌, length-append, arith}
 use Rattle.std.proofs.lemmas.List.{drop-append-le, drop_at, length-drop, length_push, map-append, take-append-le, take_all}
 use Rattle.std.specs.Str.{chars}
-use Rattle.daachorse_c.specs.Listing.{Arrays, AreWhole, entries, last_pattern_end, one_more}
+use Rattle.daachorse_c.specs.declared.listing.Listing.{Listing}
+use Rattle.daachorse_c.specs.declared.listing.Room.{Room}
+use Rattle.daachorse_c.specs.Listing.{Arrays, AreWhole, IsKeptWithin, arrays, arrays_of, entries, last_pattern_end, one_more}
 use Rattle.daachorse_c.specs.declared.unit.Unit.{Unit}
 use Rattle.daachorse_c.specs.declared.unit.Unit.TheVariants.{Byte, Character}
 use Rattle.daachorse_c.specs.Patterns.{AreEnds, registrations, texts_in}
@@ -65,3 +67,20 @@ module _ (p : Arrays) (w : List ℕ) (v : ℕ) where
 pub texts_of_more : (unit : Unit) (rs : List (List ℕ × ℕ)) (r : List ℕ × ℕ) → texts_in unit (rs ++ r ∷ []) ≡ texts_in unit rs ++ (units_in unit r.0, r.1) ∷ []
 texts_of_more Byte rs r = refl
 texts_of_more Character rs r = map-append (λ (x : List ℕ × ℕ). (chars x.0, x.1)) rs (r ∷ [])
+
+-- ---- what is kept
+
+-- of no patterns nothing is kept
+pub kept_none : (l : Listing) (room : Room) → arrays_of l ≡ arrays [] [] [] → IsKeptWithin l room
+kept_none l room none =
+    let bytes = ap (λ (p : Arrays). length p.bytes) none in
+    let ends = ap (λ (p : Arrays). length p.ends) none in
+    let values = ap (λ (p : Arrays). length p.values) none in
+    record {
+      counted_bytes = omega (arith, bytes);
+      counted_ends = omega (arith, ends);
+      counted_values = omega (arith, values);
+      bytes = omega (arith, bytes);
+      ends = omega (arith, ends);
+      values = omega (arith, values);
+    }

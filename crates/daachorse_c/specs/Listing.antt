@@ -58,11 +58,21 @@ pub record Fits (l : Listing) (room : Room) : Type 0 where
   pub bytes : l.size ≤ room.bytes
   pub patterns : l.count ≤ room.patterns
 
--- the automaton's patterns were counted, and all of them are kept where there is room
+-- what is kept is no more than was counted, and no more than there is room for
+pub record IsKeptWithin (l : Listing) (room : Room) : Type 0 where
+  pub counted_bytes : length l.bytes.items ≤ l.size
+  pub counted_ends : length l.ends.items ≤ l.count
+  pub counted_values : length l.values.items ≤ l.count
+  pub bytes : length l.bytes.items ≤ room.bytes
+  pub ends : length l.ends.items ≤ room.patterns
+  pub values : length l.values.items ≤ room.patterns
+
+-- the automaton's patterns were counted, and all of them are kept where there is room, and no more than there is room for
 pub record IsListingWithin (a : Automaton) (room : Room) (l : Listing) : Type 0 where
   pub listed : Arrays
   pub counted : AreListedIn a listed l.size l.count
   pub kept : Fits l room → arrays_of l ≡ listed
+  pub no_more : IsKeptWithin l room
 
 -- they stand at the beginning of the arrays, and behind them what was there
 pub record StandInFront (p old new : Arrays) : Type 0 where

@@ -3,7 +3,7 @@
 ghost use Rattle.std.specs.Prelude.{◌≡◌, ◌+◌, ◌↔◌, [], IfErr, IfOk, IsTrue, OnOk, length};
 ghost use Rattle.daachorse_c.specs.Automata.{Bytes, Characters};
 ghost use Rattle.daachorse_c.specs.Held.{automaton_of};
-ghost use Rattle.daachorse_c.specs.Listing.{Fits, IsListingWithin, arrays, arrays_of, one_more};
+ghost use Rattle.daachorse_c.specs.Listing.{Fits, IsKeptWithin, IsListingWithin, arrays, arrays_of, one_more};
 ghost use Rattle.daachorse_c.specs.declared.refusal.Refusal.TheVariants.{OutOfMemory};
 
 use crate::refusal::Refusal;
@@ -20,7 +20,7 @@ pub struct Room {
     pub patterns: usize,
 }
 
-/// The patterns of an automaton, each with its value, kept while there is room for all of them.
+/// The patterns of an automaton, each with its value, kept while there is room for all so far.
 #[derive(Drop)]
 pub struct Listing {
     /// The bytes of the patterns, joined.
@@ -104,6 +104,7 @@ impl Listing {
         ensures size { OnOk result (self.new.size ≡ self.old.size + length pattern.now) }
         ensures count { OnOk result (self.new.count ≡ self.old.count + 1) }
         ensures pushed { OnOk result (Fits self.new room → arrays_of self.new ≡ one_more (arrays_of self.old) pattern.now value) }
+        ensures within { OnOk result (IsKeptWithin self.old room → IsKeptWithin self.new room) }
         ensures err { IfErr result (λ r. r ≡ OutOfMemory) }
     {
         let Some(size) = self.size.checked_add(pattern.len()) else {

@@ -7,7 +7,7 @@ use Rattle.daachorse_c.specs.declared.unit.Unit.TheVariants.{Byte}
 use Rattle.daachorse_c.specs.Listing.{arrays, entries, one_more}
 use Rattle.daachorse_c.specs.Patterns.{AreTexts, texts_in}
 use Rattle.daachorse_c.specs.Units.{IsTextIn}
-use Rattle.daachorse_c.proofs.Listed.{entries-more, texts_of_more, whole-more, one-longer, one-wider}
+use Rattle.daachorse_c.proofs.Listed.{entries-more, kept_none, texts_of_more, whole-more, one-longer, one-wider}
 use Rattle.daachorse_c.proofs.listing.Listing.of_bytes.Goals as goal
 
 pub loop-item-init : goal.loop-item-init
@@ -19,6 +19,7 @@ loop-item-init c =
       size = empty.size;
       count = empty.count;
       kept = λ fits. empty.arrays;
+      no_more = kept_none c.empty-listing.result c.args.room empty.arrays;
       texts = tt;
       listing = search rules;
     }
@@ -37,6 +38,7 @@ loop-item-preserved c =
       count = omega (arith, count, i.count, one-longer p w v);
       kept = λ fits. c.in_ok-push.ensures.pushed fits
           ∙ ap (λ q. one_more q w v) (i.kept (record { bytes = omega (arith, fits.bytes, size); patterns = omega (arith, fits.patterns, count) }));
+      no_more = c.in_ok-push.ensures.within i.no_more;
       texts = subst (AreTexts Byte) (sym (entries-more p w v i.whole)) (all-push (λ r. IsTextIn Byte r.0) (entries p) (w, v) i.texts tt);
       listing = subst (IsListing (dictionary_of c.args.automaton.now))
           (ap (λ l. listed ++ l) first ∙ sym (append_assoc listed ((w, v) ∷ []) rest) ∙ ap (λ l. l ++ rest) (sym (texts_of_more Byte (entries p) (w, v)) ∙ ap (texts_in Byte) (sym (entries-more p w v i.whole))))

@@ -3,7 +3,7 @@ use Rattle.std.proofs.Common.{◌≡◌, ◌++◌, length}
 use Rattle.daachorse_model.specs.Prefixes.{IsListing}
 use Rattle.daachorse_charwise.specs.Automata.{dictionary_of}
 use Rattle.daachorse_c.specs.declared.unit.Unit.TheVariants.{Character}
-use Rattle.daachorse_c.specs.Listing.{Arrays, AreWhole, Fits, arrays_of, entries}
+use Rattle.daachorse_c.specs.Listing.{Arrays, AreWhole, Fits, IsKeptWithin, arrays_of, entries}
 use Rattle.daachorse_c.specs.Patterns.{AreTexts, texts_in}
 use Rattle.daachorse_c.proofs.listing.Listing.of_characters.Given as goal
 
@@ -14,6 +14,7 @@ invariant-loop-item l = record {
   size : l.listing.size ≡ length listed.bytes;
   count : l.listing.count ≡ length listed.ends;
   kept : Fits l.listing l.room → arrays_of l.listing ≡ listed;
+  no_more : IsKeptWithin l.listing l.room;
   texts : AreTexts Character (entries listed);
   listing : IsListing (dictionary_of l.automaton) (texts_in Character (entries listed) ++ l.item-iterator);
 }

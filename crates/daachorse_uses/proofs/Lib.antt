@@ -1,3 +1,4 @@
+pub mod Copies
 pub mod Covers
 pub mod Lookups
 pub mod Marks

@@ -3,11 +3,12 @@
 //! A stepper counts the bytes consumed in a `usize`. Before each unit the searches by a stepper ask
 //! whether its place still fits, which is the condition of `consume`.
 
-ghost use Rattle.std.specs.Prelude.{◌≡◌};
+ghost use Rattle.std.specs.Prelude.{◌≡◌, OnOk, codes};
 ghost use Rattle.std.specs.Iterator.{IsFinite};
 ghost use Rattle.daachorse_model.specs.declared.MatchKind.TheVariants.{Standard};
 ghost use Rattle.daachorse_bytewise.specs.Automata as bytes;
 ghost use Rattle.daachorse_charwise.specs.Automata as characters;
+ghost use Rattle.daachorse_uses.specs.Copies.{IsCopiedWith, in_brackets, matches_of};
 
 use daachorse::{
     CharwiseDoubleArrayAhoCorasick, DoubleArrayAhoCorasick, DoubleArrayAhoCorasickBuilder, Match,
@@ -90,6 +91,7 @@ pub fn name_matches<R: Read + Drop, W: Write>(
     out: &mut W,
 ) -> io::Result<()>
     requires standard { bytes.kind_of words.now ≡ Standard }
+    ensures { OnOk result (IsCopiedWith (R.remaining reader) (matches_of words.now) (λ m. in_brackets m.value) (W.contents out.old) (W.contents out.new)) }
 {
     words.replace_all_from_reader(alloc, reader, out, |found, _matched, out| {
         write!(out, "[{}]", found.value())
@@ -108,7 +110,19 @@ pub fn redact_log<R: Read + Drop, W: Write>(
     let words: DoubleArrayAhoCorasick<u32> = DoubleArrayAhoCorasickBuilder::new()
         .match_kind(MatchKind::LeftmostLongest)
         .build(alloc, secrets.map(|line| line.as_bytes()))?;
-    words.replace_all_from_reader(alloc, log, out, |_found, _secret, out| {
+    redact_reader(&words, alloc, log, out)
+}
+
+/// Copies what a reader gives to `out`, with `[...]` in place of each match.
+pub fn redact_reader<R: Read + Drop, W: Write>(
+    words: &DoubleArrayAhoCorasick<u32>,
+    alloc: Global,
+    reader: R,
+    out: &mut W,
+) -> io::Result<()>
+    ensures { OnOk result (IsCopiedWith (R.remaining reader) (matches_of words.now) (λ m. codes "[...]") (W.contents out.old) (W.contents out.new)) }
+{
+    words.replace_all_from_reader(alloc, reader, out, |_found, _secret, out| {
         out.write_all(b"[...]")
     })
 }

@@ -1,21 +1,36 @@
 //! Compares the matches of an iterator, and those of a stepper after each unit, with expected ones.
 
 ghost use Rattle.std.specs.Iterator.{IsFinite};
-ghost use Rattle.std.specs.Prelude.{◌≡◌};
+ghost use Rattle.std.specs.Prelude.{◌≡◌, []};
+ghost use Rattle.std.specs.Str.Iter.{bytes_rest};
+ghost use Rattle.daachorse_search.specs.Standings.{IsFindStanding, IsOverlappingStanding};
 
 use daachorse_core::Match;
+use daachorse_core::ascii_fold::AsciiFold;
 use daachorse_core::edge_label::EdgeLabel;
+use daachorse_haystack::decoding::Decoded;
 use daachorse_haystack::filter::Filter;
 use daachorse_haystack::haystack::Haystack;
+use daachorse_haystack::source;
 use daachorse_search::automaton::Automaton;
-use daachorse_search::find_stepper::FindStepper;
+use daachorse_search::find::FindWalk;
+use daachorse_search::find_stepper::{FindStanding, FindStepper};
 use daachorse_search::leftmost::LeftmostMatches;
 use daachorse_search::matches::Matches;
-use daachorse_search::overlapping_stepper::FindOverlappingStepper;
+use daachorse_search::matches_from::MatchesFrom;
+use daachorse_search::matches_from_reader::MatchesFromReader;
+use daachorse_search::overlapping::{NoSuffixWalk, OverlappingWalk};
+use daachorse_search::overlapping_stepper::{FindOverlappingStepper, OverlappingStanding};
+use daachorse_search::reader::ReadSource;
 use daachorse_search::step_unit::StepUnit;
 use daachorse_search::stepwise::Stepwise;
+use daachorse_streams::block_source::{BlockSource, BlockUnit};
+use daachorse_streams::leftmost_from_reader::LeftmostFromReader;
+use std::alloc::Allocator;
 use std::io::{self, ErrorKind};
+use std::iter::Copied;
 use std::slice::Iter;
+use std::str;
 
 /// The start, the end and the value of a match.
 pub type Found = (usize, usize, u32);
@@ -110,30 +125,126 @@ pub fn are<I: Iterator<Item = Match<u32>> + Drop>(matches: I, expected: &[Found]
     expected.is_met()
 }
 
+/// A search over a reader, which may be asked at any time.
+trait ReadSearch: Drop {
+    /// The next match, or the error at which the search ends.
+    fn next_read(&mut self) -> Option<io::Result<Match<u32>>>;
+}
+
+impl<W: Stepwise<u32>, S: ReadSource<W::Unit>> ReadSearch for MatchesFromReader<u32, W, S>
+where
+    W::Unit: AsciiFold,
+{
+    fn next_read(&mut self) -> Option<io::Result<Match<u32>>> {
+        self.next()
+    }
+}
+
+impl<'a, A: Automaton<u32>, ALLOC: Allocator, S: BlockSource<A::Unit>, B: Allocator> ReadSearch
+    for LeftmostFromReader<'a, u32, A, ALLOC, S, B>
+where
+    A::Unit: BlockUnit,
+{
+    fn next_read(&mut self) -> Option<io::Result<Match<u32>>> {
+        self.next()
+    }
+}
+
 /// Whether a search over a reader gives these matches, in this order, then this error, if there is
 /// one, and nothing after it.
-pub fn are_read<I: Iterator<Item = io::Result<Match<u32>>> + Drop>(
-    items: I,
+fn are_read<I: ReadSearch>(mut items: I, expected: &[Found], error: Option<ErrorKind>) -> bool {
+    for wanted in expected {
+        match items.next_read() {
+            Some(Ok(found)) if (found.start(), found.end(), found.value()) == *wanted => {}
+            _ => return false,
+        }
+    }
+    let failure = match items.next_read() {
+        Some(Ok(_)) => return false,
+        Some(Err(failure)) => Some(failure.kind()),
+        None => None,
+    };
+    failure == error && items.next_read().is_none()
+}
+
+/// Whether a search over a reader for matches that do not overlap gives what is expected, as
+/// [`are_read`] has it.
+///
+/// A call is proved some times faster where the automaton is the type parameter than where its walk
+/// or the whole search is.
+pub fn gives_read<A: Automaton<u32>, S: ReadSource<A::Unit>>(
+    search: MatchesFromReader<u32, FindWalk<u32, A>, S>,
     expected: &[Found],
     error: Option<ErrorKind>,
 ) -> bool
-    requires can { I.can_next items }
-    requires ends { IsFinite (I.remaining items) }
+where
+    A::Unit: AsciiFold,
 {
-    let mut expected = Expected::new(expected, &[]);
-    let mut failure = None;
-    for item in items {
-        if failure.is_some() {
-            return false;
-        }
-        match item {
-            Ok(found) => {
-                expected.take(found);
-            }
-            Err(error) => failure = Some(error.kind()),
-        }
-    }
-    expected.is_met() && failure == error
+    are_read(search, expected, error)
+}
+
+/// As [`gives_read`], for all matches.
+pub fn gives_overlapping_read<A: Automaton<u32>, S: ReadSource<A::Unit>>(
+    search: MatchesFromReader<u32, OverlappingWalk<u32, A>, S>,
+    expected: &[Found],
+    error: Option<ErrorKind>,
+) -> bool
+where
+    A::Unit: AsciiFold,
+{
+    are_read(search, expected, error)
+}
+
+/// As [`gives_read`], for the longest match at each end.
+pub fn gives_no_suffix_read<A: Automaton<u32>, S: ReadSource<A::Unit>>(
+    search: MatchesFromReader<u32, NoSuffixWalk<u32, A>, S>,
+    expected: &[Found],
+    error: Option<ErrorKind>,
+) -> bool
+where
+    A::Unit: AsciiFold,
+{
+    are_read(search, expected, error)
+}
+
+/// As [`gives_read`], for a leftmost search.
+pub fn gives_leftmost_read<
+    A: Automaton<u32>,
+    ALLOC: Allocator,
+    S: BlockSource<A::Unit>,
+    B: Allocator,
+>(
+    search: LeftmostFromReader<'_, u32, A, ALLOC, S, B>,
+    expected: &[Found],
+    error: Option<ErrorKind>,
+) -> bool
+where
+    A::Unit: BlockUnit,
+{
+    are_read(search, expected, error)
+}
+
+/// Whether a search of the bytes of a slice in turn gives the expected matches, in this order.
+pub fn gives_from<W: Stepwise<u32, Unit = u8>>(
+    search: MatchesFrom<u32, W, source::Bytes<Copied<Iter<'_, u8>>>>,
+    expected: &[Found],
+) -> bool
+    requires { search.read ≡ [] }
+{
+    are(search, expected)
+}
+
+/// Whether a search of the bytes of a text in turn gives the expected matches, in this order.
+pub fn gives_from_text<W: Stepwise<u32, Unit = char>>(
+    search: MatchesFrom<u32, W, Decoded<str::Bytes<'_>>>,
+    text: &str,
+    expected: &[Found],
+) -> bool
+    requires read { search.read ≡ [] }
+    requires source { bytes_rest search.source ≡ text.now }
+{
+    let _len = text.len();
+    are(search, expected)
 }
 
 /// Whether these are the expected values, in this order.
@@ -255,4 +366,58 @@ where
     step_overlapping_over(&mut stepper, units, &mut expected);
     stepper.turns_are_bounded();
     expected.is_met()
+}
+
+/// Lets a fresh stepper consume units as [`step_over`] does, and returns where it stands.
+pub fn stand_after<A: Automaton<u32>>(
+    mut stepper: FindStepper<'_, u32, A>,
+    units: &[A::Unit],
+    expected: &mut Expected<'_>,
+) -> FindStanding
+where
+    A::Unit: StepUnit,
+    ensures { IsFindStanding A.Unit.width A.sees stepper.entry.automaton result }
+{
+    expected.take_all(stepper.matches().into_iter());
+    step_over(&mut stepper, units, expected);
+    stepper.into_standing()
+}
+
+/// As [`stand_after`], over all matches.
+pub fn stand_overlapping_after<A: Automaton<u32>>(
+    mut stepper: FindOverlappingStepper<'_, u32, A>,
+    units: &[A::Unit],
+    expected: &mut Expected<'_>,
+) -> OverlappingStanding
+where
+    A::Unit: StepUnit,
+    ensures { IsOverlappingStanding A.Unit.width A.sees stepper.entry.automaton result }
+{
+    expected.take_all(stepper.matches());
+    step_overlapping_over(&mut stepper, units, expected);
+    stepper.into_standing()
+}
+
+/// Lets a resumed stepper consume units as [`step_over`] does.
+pub fn step_on<A: Automaton<u32>>(
+    mut stepper: FindStepper<'_, u32, A>,
+    units: &[A::Unit],
+    expected: &mut Expected<'_>,
+)
+where
+    A::Unit: StepUnit,
+{
+    step_over(&mut stepper, units, expected);
+}
+
+/// As [`step_on`], over all matches.
+pub fn step_overlapping_on<A: Automaton<u32>>(
+    mut stepper: FindOverlappingStepper<'_, u32, A>,
+    units: &[A::Unit],
+    expected: &mut Expected<'_>,
+)
+where
+    A::Unit: StepUnit,
+{
+    step_overlapping_over(&mut stepper, units, expected);
 }

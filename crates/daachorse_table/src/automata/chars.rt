@@ -2,7 +2,7 @@
 
 use crate::automata::Automaton;
 use crate::case::Case;
-use crate::finding::{Found, are, are_read, are_values};
+use crate::finding::{Found, are, are_values, gives_leftmost_read};
 use crate::report::Stop;
 use crate::row::{Count, Documents, Making, Pattern, Way};
 use crate::searched::chars::Charwise;
@@ -184,7 +184,7 @@ impl Automaton for Charwise {
         }
         let marks = self.stream_marks(alloc)?;
         let items = self.leftmost_stream_from_reader(alloc, &marks, reader)?;
-        Ok(are_read(items, expected, error))
+        Ok(gives_leftmost_read(items, expected, error))
     }
 
     fn streams_from_buf_reader<R: BufRead + Drop>(
@@ -199,6 +199,6 @@ impl Automaton for Charwise {
         }
         let marks = self.stream_marks(alloc)?;
         let items = self.leftmost_stream_from_buf_reader(alloc, &marks, reader)?;
-        Ok(are_read(items, expected, error))
+        Ok(gives_leftmost_read(items, expected, error))
     }
 }

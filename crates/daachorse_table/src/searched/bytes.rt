@@ -2,8 +2,9 @@
 
 use crate::case::Case;
 use crate::finding::{
-    Expected, Found, are, are_read, are_stepped, are_stepped_overlapping, gives, gives_leftmost,
-    step_over, step_overlapping_over,
+    Expected, Found, are_stepped, are_stepped_overlapping, gives, gives_from, gives_leftmost,
+    gives_no_suffix_read, gives_overlapping_read, gives_read, stand_after, stand_overlapping_after,
+    step_on, step_overlapping_on,
 };
 use crate::replaced::{Style, append_styled, instead, write_styled};
 use crate::row::Pattern;
@@ -49,7 +50,7 @@ impl Searched for Bytewise {
         if !self.match_kind().is_standard() {
             return false;
         }
-        are(
+        gives_from(
             self.find_overlapping_iter_from_iter(case.bytes.iter().copied()),
             expected,
         )
@@ -66,7 +67,7 @@ impl Searched for Bytewise {
             return false;
         }
         match self.find_overlapping_iter_from_reader(alloc, reader) {
-            Ok(items) => are_read(items, expected, error),
+            Ok(items) => gives_overlapping_read(items, expected, error),
             Err(_) => false,
         }
     }
@@ -80,7 +81,7 @@ impl Searched for Bytewise {
         if !self.match_kind().is_standard() {
             return false;
         }
-        are_read(
+        gives_overlapping_read(
             self.find_overlapping_iter_from_buf_reader(reader),
             expected,
             error,
@@ -105,11 +106,10 @@ impl Searched for Bytewise {
         }
         let cut = cut.min(case.bytes.len());
         let mut expected = Expected::new(expected, &[]);
-        let mut stepper = self.find_overlapping_stepper();
-        expected.take_all(stepper.matches());
-        step_overlapping_over(&mut stepper, &case.bytes[..cut], &mut expected);
-        let mut resumed = self.resume_find_overlapping_stepper(stepper.into_standing());
-        step_overlapping_over(&mut resumed, &case.bytes[cut..], &mut expected);
+        let stepper = self.find_overlapping_stepper();
+        let standing = stand_overlapping_after(stepper, &case.bytes[..cut], &mut expected);
+        let resumed = self.resume_find_overlapping_stepper(standing);
+        step_overlapping_on(resumed, &case.bytes[cut..], &mut expected);
         Some(expected.is_met())
     }
 
@@ -124,7 +124,7 @@ impl Searched for Bytewise {
         if !self.match_kind().is_standard() {
             return false;
         }
-        are(
+        gives_from(
             self.find_overlapping_no_suffix_iter_from_iter(case.bytes.iter().copied()),
             expected,
         )
@@ -141,7 +141,7 @@ impl Searched for Bytewise {
             return false;
         }
         match self.find_overlapping_no_suffix_iter_from_reader(alloc, reader) {
-            Ok(items) => are_read(items, expected, error),
+            Ok(items) => gives_no_suffix_read(items, expected, error),
             Err(_) => false,
         }
     }
@@ -155,7 +155,7 @@ impl Searched for Bytewise {
         if !self.match_kind().is_standard() {
             return false;
         }
-        are_read(
+        gives_no_suffix_read(
             self.find_overlapping_no_suffix_iter_from_buf_reader(reader),
             expected,
             error,
@@ -173,7 +173,7 @@ impl Searched for Bytewise {
         if !self.match_kind().is_standard() {
             return false;
         }
-        are(
+        gives_from(
             self.find_iter_from_iter(case.bytes.iter().copied()),
             expected,
         )
@@ -190,7 +190,7 @@ impl Searched for Bytewise {
             return false;
         }
         match self.find_iter_from_reader(alloc, reader) {
-            Ok(items) => are_read(items, expected, error),
+            Ok(items) => gives_read(items, expected, error),
             Err(_) => false,
         }
     }
@@ -204,7 +204,7 @@ impl Searched for Bytewise {
         if !self.match_kind().is_standard() {
             return false;
         }
-        are_read(self.find_iter_from_buf_reader(reader), expected, error)
+        gives_read(self.find_iter_from_buf_reader(reader), expected, error)
     }
 
     fn find_by_steps(&self, case: &Case, expected: &[Found], depths: &[u32]) -> bool {
@@ -220,11 +220,9 @@ impl Searched for Bytewise {
         }
         let cut = cut.min(case.bytes.len());
         let mut expected = Expected::new(expected, &[]);
-        let mut stepper = self.find_stepper();
-        expected.take_all(stepper.matches().into_iter());
-        step_over(&mut stepper, &case.bytes[..cut], &mut expected);
-        let mut resumed = self.resume_find_stepper(stepper.into_standing());
-        step_over(&mut resumed, &case.bytes[cut..], &mut expected);
+        let standing = stand_after(self.find_stepper(), &case.bytes[..cut], &mut expected);
+        let resumed = self.resume_find_stepper(standing);
+        step_on(resumed, &case.bytes[cut..], &mut expected);
         Some(expected.is_met())
     }
 

@@ -2,7 +2,8 @@
 
 use crate::case::Case;
 use crate::finding::{
-    Found, are, are_read, are_stepped, are_stepped_overlapping, gives, gives_leftmost,
+    Found, are_stepped, are_stepped_overlapping, gives, gives_from_text, gives_leftmost,
+    gives_no_suffix_read, gives_overlapping_read, gives_read,
 };
 use crate::replaced::{Style, append_text_styled, instead_of_text, write_styled};
 use crate::row::Pattern;
@@ -59,7 +60,7 @@ impl Searched for Charwise {
             return false;
         }
         match self.find_overlapping_iter_from_reader(alloc, reader) {
-            Ok(items) => are_read(items, expected, error),
+            Ok(items) => gives_overlapping_read(items, expected, error),
             Err(_) => false,
         }
     }
@@ -73,7 +74,7 @@ impl Searched for Charwise {
         if !self.match_kind().is_standard() {
             return false;
         }
-        are_read(
+        gives_overlapping_read(
             self.find_overlapping_iter_from_buf_reader(reader),
             expected,
             error,
@@ -118,7 +119,7 @@ impl Searched for Charwise {
             return false;
         }
         match self.find_overlapping_no_suffix_iter_from_reader(alloc, reader) {
-            Ok(items) => are_read(items, expected, error),
+            Ok(items) => gives_no_suffix_read(items, expected, error),
             Err(_) => false,
         }
     }
@@ -132,7 +133,7 @@ impl Searched for Charwise {
         if !self.match_kind().is_standard() {
             return false;
         }
-        are_read(
+        gives_no_suffix_read(
             self.find_overlapping_no_suffix_iter_from_buf_reader(reader),
             expected,
             error,
@@ -161,7 +162,7 @@ impl Searched for Charwise {
             return false;
         }
         match self.find_iter_from_reader(alloc, reader) {
-            Ok(items) => are_read(items, expected, error),
+            Ok(items) => gives_read(items, expected, error),
             Err(_) => false,
         }
     }
@@ -175,7 +176,7 @@ impl Searched for Charwise {
         if !self.match_kind().is_standard() {
             return false;
         }
-        are_read(self.find_iter_from_buf_reader(reader), expected, error)
+        gives_read(self.find_iter_from_buf_reader(reader), expected, error)
     }
 
     fn find_by_steps(&self, case: &Case, expected: &[Found], depths: &[u32]) -> bool {
@@ -252,9 +253,11 @@ fn overlapping_in_bytes_of(searched: &Charwise, text: &str, expected: &[Found]) 
     if !searched.match_kind().is_standard() {
         return false;
     }
-    let _len = text.len();
-    let source = text.bytes();
-    are(searched.find_overlapping_iter_from_iter(source), expected)
+    gives_from_text(
+        searched.find_overlapping_iter_from_iter(text.bytes()),
+        text,
+        expected,
+    )
 }
 
 /// Whether a search of the bytes of a text in turn gives the expected matches.
@@ -262,10 +265,9 @@ fn no_suffix_in_bytes_of(searched: &Charwise, text: &str, expected: &[Found]) ->
     if !searched.match_kind().is_standard() {
         return false;
     }
-    let _len = text.len();
-    let source = text.bytes();
-    are(
-        searched.find_overlapping_no_suffix_iter_from_iter(source),
+    gives_from_text(
+        searched.find_overlapping_no_suffix_iter_from_iter(text.bytes()),
+        text,
         expected,
     )
 }
@@ -275,7 +277,5 @@ fn find_in_bytes_of(searched: &Charwise, text: &str, expected: &[Found]) -> bool
     if !searched.match_kind().is_standard() {
         return false;
     }
-    let _len = text.len();
-    let source = text.bytes();
-    are(searched.find_iter_from_iter(source), expected)
+    gives_from_text(searched.find_iter_from_iter(text.bytes()), text, expected)
 }

@@ -1,10 +1,7 @@
 -- The source is the bytes of the string.
-use Rattle.std.proofs.Common.{◌∙◌, ap, arith}
+use Rattle.std.proofs.Common.{◌∙◌, ap}
 use Rattle.std.specs.Str.Iter.{bytes_rest}
-use Rattle.daachorse_table.proofs.FromText.{from_text}
 use Rattle.daachorse_table.proofs.searched.chars.no_suffix_in_bytes_of.Goals as goal
 
-pub are-requires-clause-can : goal.are-requires-clause-can
-are-requires-clause-can c =
-    let begun = c.find_overlapping_no_suffix_iter_from_iter in
-    from_text begun.result.folds begun.result.source c.args.text.now begun.result.read (ap bytes_rest begun.ensures.source ∙ c.bytes-source.ensures.rest) c.utf8.text (omega arith) begun.ensures.read
+pub gives_from_text-requires-clause-source : goal.gives_from_text-requires-clause-source
+gives_from_text-requires-clause-source c = ap bytes_rest c.find_overlapping_no_suffix_iter_from_iter.ensures.source ∙ c.bytes.ensures.rest

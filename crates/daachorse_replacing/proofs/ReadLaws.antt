@@ -1,9 +1,9 @@
 -- What a reader gave went to the output with each match replaced: its bytes, or the characters that they spell.
-use Rattle.std.proofs.Common.{◌≡◌, ℕ, inl, inr, List, [], ◌∷◌, ◌++◌, Option, Some, None, Result, Ok, Err, refl, sym, ap, ◌∙◌, subst, append-nil}
+use Rattle.std.proofs.Common.{◌≡◌, ℕ, inl, inr, List, [], ◌∷◌, ◌++◌, Option, Some, None, Result, Ok, Err, refl, sym, ap, ◌∙◌, subst, append-nil, arith}
 use Rattle.std.proofs.lemmas.Bool.{false≢true}
 use Rattle.std.proofs.lemmas.List.{map-id}
 use Rattle.std.proofs.lemmas.List.Elements.{All-cons, All-nil}
-use Rattle.std.specs.Prelude.{All, IfErr, IfSome, IsSome, OnOk, ⊤, flat_map, map}
+use Rattle.std.specs.Prelude.{◌+◌, ◌≤◌, All, IfErr, IfSome, IsSome, OnOk, ⊤, flat_map, length, map}
 use Rattle.std.specs.Borrow.{MutBor}
 use Rattle.std.specs.Char.{IsScalar, encode_utf8}
 use Rattle.std.specs.Io.KnownBytes.{Consumes, IsAtEnd}
@@ -14,7 +14,7 @@ use Rattle.std.proofs.KnownBytes.{Consumes-nil, Consumes-trans}
 use Rattle.daachorse_model.specs.declared.Match.{Match}
 use Rattle.daachorse_search.specs.Readers.{GivesByte, GivesCharacter, Reading, to_give, to_read}
 use Rattle.daachorse_replacing.specs.ReplacedWith.{IsReplaced, IsReplacedSoFar, IsStopped}
-use Rattle.daachorse_replacing.specs.Streams.{IsAtWholeEnd, IsHeldBack, IsReadReplaced, IsReadReplacedSoFar, IsStreamed, IsStreamedSoFar, ReplacesRead}
+use Rattle.daachorse_replacing.specs.Streams.{HasNoLonger, IsAtWholeEnd, IsHeldBack, IsLongest, IsReadReplaced, IsReadReplacedSoFar, IsStreamed, IsStreamedSoFar, ReplacesRead, block}
 use Rattle.daachorse_model.specs.declared.MatchKind.{MatchKind}
 use Rattle.daachorse_model.specs.declared.MatchKind.TheVariants.{Standard, LeftmostLongest, LeftmostFirst}
 use Rattle.daachorse_model.specs.Dictionary.{Dictionary}
@@ -129,16 +129,16 @@ module _ {V P O F R : Type 0} (bytes : P → List ℕ) (taken : O → Option (Li
         subst M alike (subst (λ text. Q text h.units) (bytes_are h.units) (subst (λ units. Q (flat_map (λ b. b ∷ []) h.units) units) (map-id h.units) h.replaced));
   }
 
-  read-some_bytes : (longest : ℕ) (e : Error) → IsStreamedSoFar bytes taken step (GivesByte known) (λ (s : Reading R). s.failure) (λ b. b) (λ b. b ∷ []) found longest e source f old new
-      → IsReadReplacedSoFar bytes taken step (λ b. ⊤) (λ b. b) left matches e f old new
-  read-some_bytes longest e h = record {
+  read-some_bytes : {no_longer : ℕ → Type 0} (longest : ℕ) → ((most : ℕ) → no_longer most → longest ≤ most) → (e : Error) → IsStreamedSoFar bytes taken step (GivesByte known) (λ (s : Reading R). s.failure) (λ b. b) (λ b. b ∷ []) found longest e source f old new
+      → IsReadReplacedSoFar bytes taken step (λ b. ⊤) (λ b. b) left matches no_longer e f old new
+  read-some_bytes longest least e h = record {
     units = h.units;
     are = λ k d inside. tt;
     begins =
         subst (λ o. IfSome o (λ l. (rest : List ℕ) × (l ≡ h.units ++ rest))) (starts_from known reads same)
         (some_taken (to_give known source) (to_give known h.last) h.units (byte_taken known source h.units h.last h.took));
     because = elim h.because [
-      | inl (why, every, held, few, back) ↦ inl ((λ more. bytes_up_to (h.units ++ more) (every more)), held, held_alike h.units (bytes_are h.units) back)
+      | inl (why, every, held, few, back) ↦ inl ((λ more. bytes_up_to (h.units ++ more) (every more)), held, (λ most bound. let within = least most bound in omega (arith, few, within)), held_alike h.units (bytes_are h.units) back)
       | inr (inl every) ↦ inr (inl (λ more. bytes_stopped e (h.units ++ more) (every more)))
       | inr (inr (ends, stops)) ↦ inr (inr (all_bytes h.units h.last h.took ends, bytes_stopped e h.units stops))
     ];
@@ -155,38 +155,45 @@ module _ {V P O F R : Type 0} (bytes : P → List ℕ) (taken : O → Option (Li
         subst M alike (subst (λ text. Q text h.units) (characters_are h.units) (subst (λ units. Q (flat_map encode_utf8 h.units) units) (map-id h.units) h.replaced));
   }
 
-  read-some_characters : (longest : ℕ) (e : Error) → IsStreamedSoFar bytes taken step (GivesCharacter known) (λ (s : Reading R). s.failure) (λ c. c) encode_utf8 found longest e source f old new
-      → IsReadReplacedSoFar bytes taken step IsScalar encode_utf8_all left matches e f old new
-  read-some_characters longest e h = record {
+  read-some_characters : {no_longer : ℕ → Type 0} (longest : ℕ) → ((most : ℕ) → no_longer most → longest ≤ most) → (e : Error) → IsStreamedSoFar bytes taken step (GivesCharacter known) (λ (s : Reading R). s.failure) (λ c. c) encode_utf8 found longest e source f old new
+      → IsReadReplacedSoFar bytes taken step IsScalar encode_utf8_all left matches no_longer e f old new
+  read-some_characters longest least e h = record {
     units = h.units;
     are = are_scalars known source h.units h.last h.took;
     begins =
         subst (λ o. IfSome o (λ l. (rest : List ℕ) × (l ≡ encode_utf8_all h.units ++ rest))) (starts_from known reads same)
         (some_taken (to_give known source) (to_give known h.last) (encode_utf8_all h.units) (characters_taken known source h.units h.last h.took));
     because = elim h.because [
-      | inl (why, every, held, few, back) ↦ inl ((λ more. characters_up_to (h.units ++ more) (every more)), held, held_alike h.units (characters_are h.units) back)
+      | inl (why, every, held, few, back) ↦ inl ((λ more. characters_up_to (h.units ++ more) (every more)), held, (λ most bound. let within = least most bound in omega (arith, few, within)), held_alike h.units (characters_are h.units) back)
       | inr (inl every) ↦ inr (inl (λ more. characters_stopped e (h.units ++ more) (every more)))
       | inr (inr (ends, stops)) ↦ inr (inr (all_characters h.units h.last h.took ends, characters_stopped e h.units stops))
     ];
   }
 
   -- whatever came of it
-  pub replaces-bytes : (longest : ℕ) (r : Result (Unit {0}) Error) → OnOk r (IsStreamed bytes taken step (GivesByte known) (λ (s : Reading R). s.failure) (λ b. b) (λ b. b ∷ []) found source f old new)
+  pub replaces-bytes : {no_longer : ℕ → Type 0} (longest : ℕ) → ((most : ℕ) → no_longer most → longest ≤ most) → (r : Result (Unit {0}) Error) → OnOk r (IsStreamed bytes taken step (GivesByte known) (λ (s : Reading R). s.failure) (λ b. b) (λ b. b ∷ []) found source f old new)
       → IfErr r (λ e. IsStreamedSoFar bytes taken step (GivesByte known) (λ (s : Reading R). s.failure) (λ b. b) (λ b. b ∷ []) found longest e source f old new)
-      → ReplacesRead bytes taken step (λ b. ⊤) (λ b. b) left matches r f old new
-  replaces-bytes longest (Ok x) whole beginning = read-bytes whole
-  replaces-bytes longest (Err e) whole beginning = read-some_bytes longest e beginning
+      → ReplacesRead bytes taken step (λ b. ⊤) (λ b. b) left matches no_longer r f old new
+  replaces-bytes longest least (Ok x) whole beginning = read-bytes whole
+  replaces-bytes longest least (Err e) whole beginning = read-some_bytes longest least e beginning
 
-  pub replaces-characters : (longest : ℕ) (r : Result (Unit {0}) Error) → OnOk r (IsStreamed bytes taken step (GivesCharacter known) (λ (s : Reading R). s.failure) (λ c. c) encode_utf8 found source f old new)
+  pub replaces-characters : {no_longer : ℕ → Type 0} (longest : ℕ) → ((most : ℕ) → no_longer most → longest ≤ most) → (r : Result (Unit {0}) Error) → OnOk r (IsStreamed bytes taken step (GivesCharacter known) (λ (s : Reading R). s.failure) (λ c. c) encode_utf8 found source f old new)
       → IfErr r (λ e. IsStreamedSoFar bytes taken step (GivesCharacter known) (λ (s : Reading R). s.failure) (λ c. c) encode_utf8 found longest e source f old new)
-      → ReplacesRead bytes taken step IsScalar encode_utf8_all left matches r f old new
-  replaces-characters longest (Ok x) whole beginning = read-characters whole
-  replaces-characters longest (Err e) whole beginning = read-some_characters longest e beginning
+      → ReplacesRead bytes taken step IsScalar encode_utf8_all left matches no_longer r f old new
+  replaces-characters longest least (Ok x) whole beginning = read-characters whole
+  replaces-characters longest least (Err e) whole beginning = read-some_characters longest least e beginning
+
+-- the longest is no longer than any bound of the keys
+pub longest-least : {V : Type 0} {width : ℕ → ℕ} {K : Dictionary V} {longest : ℕ} → IsLongest width K longest → (most : ℕ) → HasNoLonger width K most → longest ≤ most
+longest-least is most bound = elim is.some [
+  | inl none ↦ subst (λ n. n ≤ most) (sym none) (omega arith)
+  | inr (w, key, sized) ↦ subst (λ n. n ≤ most) sized (bound w key)
+]
 
 -- nothing was read yet
 pub read-nothing : {V P O E F : Type 0} (bytes : P → List ℕ) (taken : O → Option (List ℕ)) (step : F → Match V → P → MutBor O → Result (Unit {0}) E → MutBor O → F → Type 0)
-    (is_unit : ℕ → Type 0) (spelled : List ℕ → List ℕ) (known : Option (List ℕ)) (matches : List ℕ → List (Match V)) (e : E) (f : F) (old : O) → spelled [] ≡ []
-    → ((units : List ℕ) → Follows 0 (matches units)) → IsReadReplacedSoFar bytes taken step is_unit spelled known matches e f old old
+    (is_unit : ℕ → Type 0) (spelled : List ℕ → List ℕ) (known : Option (List ℕ)) (matches : List ℕ → List (Match V)) {no_longer : ℕ → Type 0} (e : E) (f : F) (old : O) → spelled [] ≡ []
+    → ((units : List ℕ) → Follows 0 (matches units)) → IsReadReplacedSoFar bytes taken step is_unit spelled known matches no_longer e f old old
 read-nothing bytes taken step is_unit spelled known matches e f old none apart = record {
   units = [];
   are = All-nil is_unit;
@@ -196,6 +203,7 @@ read-nothing bytes taken step is_unit spelled known matches e f old none apart =
       inl (
         (λ more. so_far_nothing bytes taken step f old (spelled more) 0 (matches more)),
         [],
+        (λ most bound. omega arith),
         subst T (sym none) (held-back bytes taken step f old (held-first bytes taken step f old) matches (λ more. (matches more, refl, apart more))),
       );
 }

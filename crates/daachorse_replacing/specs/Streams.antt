@@ -146,19 +146,22 @@ module _ {V P O E F : Type 0} (bytes : P → List ℕ) (taken : O → Option (Li
     abbrev pub StopsAmongRead : E → List ℕ → F → O → O → Type 0
     StopsAmongRead e units f old new = IsStopped bytes taken (spelled units) step e (matches units) f old new
 
-    -- The bytes of these units are a beginning of that. The reader or an allocation failed: what went out is right however the reader goes on.
-    -- Or the output refused some of the bytes that were to go out, or a call returned the error: however the reader goes on, or at its end.
-    pub record IsReadReplacedSoFar (e : E) (f : F) (old new : O) : Type 0 where
-      pub units : List ℕ
-      pub are : All is_unit units
-      pub begins : IfSome known (λ left. (rest : List ℕ) × (left ≡ spelled units ++ rest))
-      pub because :
-          (((more : List ℕ) → IsReadUpTo (units ++ more) f old new)
-          × (held : List ℕ) × IsHeldBack bytes taken step (λ more. matches (units ++ more)) (spelled units) held f old new)
-          ⊎ (((more : List ℕ) → StopsAmongRead e (units ++ more) f old new)
-          ⊎ (IfSome known (λ left. left ≡ spelled units) × StopsAmongRead e units f old new))
+    module _ (no_longer : ℕ → Type 0) where
+      -- The bytes of these units are a beginning of that. The reader or an allocation failed: what went out is right however the reader goes on,
+      -- and no more bytes are held back than the longest key and a block have. Or the output refused some of the bytes that were to go out,
+      -- or a call returned the error: however the reader goes on, or at its end.
+      pub record IsReadReplacedSoFar (e : E) (f : F) (old new : O) : Type 0 where
+        pub units : List ℕ
+        pub are : All is_unit units
+        pub begins : IfSome known (λ left. (rest : List ℕ) × (left ≡ spelled units ++ rest))
+        pub because :
+            (((more : List ℕ) → IsReadUpTo (units ++ more) f old new)
+            × (held : List ℕ) × ((most : ℕ) → no_longer most → length held ≤ most + block)
+            × IsHeldBack bytes taken step (λ more. matches (units ++ more)) (spelled units) held f old new)
+            ⊎ (((more : List ℕ) → StopsAmongRead e (units ++ more) f old new)
+            ⊎ (IfSome known (λ left. left ≡ spelled units) × StopsAmongRead e units f old new))
 
-    -- what a reader gives is replaced: all of it, or what came before a refusal
-    abbrev pub ReplacesRead : {T : Type 0} → Result T E → F → O → O → Type 0
-    ReplacesRead (Ok x) f old new = IsReadReplaced f old new
-    ReplacesRead (Err e) f old new = IsReadReplacedSoFar e f old new
+      -- what a reader gives is replaced: all of it, or what came before a refusal
+      abbrev pub ReplacesRead : {T : Type 0} → Result T E → F → O → O → Type 0
+      ReplacesRead (Ok x) f old new = IsReadReplaced f old new
+      ReplacesRead (Err e) f old new = IsReadReplacedSoFar e f old new

@@ -6,7 +6,7 @@ ghost use Rattle.daachorse_model.specs.declared.MatchKind.TheVariants.{Standard}
 ghost use Rattle.daachorse_model.specs.Folding.{as_read};
 ghost use Rattle.daachorse_model.specs.Units.{byte_width};
 ghost use Rattle.daachorse_replacing.specs.ByKind.{non_overlapping};
-ghost use Rattle.daachorse_replacing.specs.Streams.{IsLongest, ReplacesRead};
+ghost use Rattle.daachorse_replacing.specs.Streams.{HasNoLonger, IsLongest, ReplacesRead};
 ghost use Rattle.daachorse_bytewise.specs.Automata.{dictionary_of, kind_of};
 
 use super::DoubleArrayAhoCorasick;
@@ -40,7 +40,7 @@ impl<V: Copy, A: Allocator + Copy> DoubleArrayAhoCorasick<V, A> {
     >(&self, alloc: B, reader: R, out: &mut O, write: F) -> io::Result<()>
         requires callable { F.IsAlwaysCallable write }
         ensures { ReplacesRead (λ s. s.now) O.contents F.step (λ byte. ⊤) (λ bytes. bytes) (R.remaining reader)
-            (λ bytes. non_overlapping (kind_of self.now) byte_width (dictionary_of self.now) (as_read self.now.folds bytes)) result write out.old out.new }
+            (λ bytes. non_overlapping (kind_of self.now) byte_width (dictionary_of self.now) (as_read self.now.folds bytes)) (HasNoLonger byte_width (dictionary_of self.now)) result write out.old out.new }
     {
         match self.match_kind() {
             MatchKind::Standard => self.replace_standard(alloc, reader, out, write),
@@ -60,7 +60,7 @@ impl<V: Copy, A: Allocator + Copy> DoubleArrayAhoCorasick<V, A> {
         requires kind { kind_of self.now ≡ Standard }
         requires callable { F.IsAlwaysCallable write }
         ensures { ReplacesRead (λ s. s.now) O.contents F.step (λ byte. ⊤) (λ bytes. bytes) (R.remaining reader)
-            (λ bytes. non_overlapping (kind_of self.now) byte_width (dictionary_of self.now) (as_read self.now.folds bytes)) result write out.old out.new }
+            (λ bytes. non_overlapping (kind_of self.now) byte_width (dictionary_of self.now) (as_read self.now.folds bytes)) (HasNoLonger byte_width (dictionary_of self.now)) result write out.old out.new }
     {
         let longest = self.longest_pattern()?;
         let source = ReadBytes::new(in_blocks(alloc, reader)?);
@@ -85,7 +85,7 @@ impl<V: Copy, A: Allocator + Copy> DoubleArrayAhoCorasick<V, A> {
         requires kind { kind_of self.now ≢ Standard }
         requires callable { F.IsAlwaysCallable write }
         ensures { ReplacesRead (λ s. s.now) O.contents F.step (λ byte. ⊤) (λ bytes. bytes) (R.remaining reader)
-            (λ bytes. non_overlapping (kind_of self.now) byte_width (dictionary_of self.now) (as_read self.now.folds bytes)) result write out.old out.new }
+            (λ bytes. non_overlapping (kind_of self.now) byte_width (dictionary_of self.now) (as_read self.now.folds bytes)) (HasNoLonger byte_width (dictionary_of self.now)) result write out.old out.new }
     {
         let marks = self.stream_marks(*self.depths.allocator())?;
         let source = ReadBytes::new(in_blocks(alloc, reader)?);
@@ -122,7 +122,7 @@ impl<V: Copy, A: Allocator + Copy> Accelerated<V, A> {
     >(&self, alloc: B, reader: R, out: &mut O, write: F) -> io::Result<()>
         requires callable { F.IsAlwaysCallable write }
         ensures { ReplacesRead (λ s. s.now) O.contents F.step (λ byte. ⊤) (λ bytes. bytes) (R.remaining reader)
-            (λ bytes. non_overlapping (kind_of self.now.automaton) byte_width (dictionary_of self.now.automaton) (as_read self.now.automaton.folds bytes)) result write out.old out.new }
+            (λ bytes. non_overlapping (kind_of self.now.automaton) byte_width (dictionary_of self.now.automaton) (as_read self.now.automaton.folds bytes)) (HasNoLonger byte_width (dictionary_of self.now.automaton)) result write out.old out.new }
     {
         match self.match_kind() {
             MatchKind::Standard => self.replace_standard(alloc, reader, out, write),
@@ -143,7 +143,7 @@ impl<V: Copy, A: Allocator + Copy> Accelerated<V, A> {
         requires kind { kind_of self.now.automaton ≡ Standard }
         requires callable { F.IsAlwaysCallable write }
         ensures { ReplacesRead (λ s. s.now) O.contents F.step (λ byte. ⊤) (λ bytes. bytes) (R.remaining reader)
-            (λ bytes. non_overlapping (kind_of self.now.automaton) byte_width (dictionary_of self.now.automaton) (as_read self.now.automaton.folds bytes)) result write out.old out.new }
+            (λ bytes. non_overlapping (kind_of self.now.automaton) byte_width (dictionary_of self.now.automaton) (as_read self.now.automaton.folds bytes)) (HasNoLonger byte_width (dictionary_of self.now.automaton)) result write out.old out.new }
     {
         let longest = self.automaton().longest_pattern()?;
         let source = ReadBytes::new(in_blocks(alloc, reader)?);

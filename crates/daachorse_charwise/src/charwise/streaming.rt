@@ -7,7 +7,7 @@ ghost use Rattle.daachorse_model.specs.declared.MatchKind.TheVariants.{Standard}
 ghost use Rattle.daachorse_model.specs.Folding.{as_read};
 ghost use Rattle.daachorse_model.specs.Units.{char_width};
 ghost use Rattle.daachorse_replacing.specs.ByKind.{non_overlapping};
-ghost use Rattle.daachorse_replacing.specs.Streams.{IsLongest, ReplacesRead};
+ghost use Rattle.daachorse_replacing.specs.Streams.{HasNoLonger, IsLongest, ReplacesRead};
 ghost use Rattle.daachorse_charwise.specs.Automata.{dictionary_of, kind_of};
 
 use super::CharwiseDoubleArrayAhoCorasick;
@@ -44,7 +44,7 @@ impl<V: Copy, A: Allocator + Copy> CharwiseDoubleArrayAhoCorasick<V, A> {
     >(&self, alloc: B, reader: R, out: &mut O, write: F) -> io::Result<()>
         requires callable { F.IsAlwaysCallable write }
         ensures { ReplacesRead (λ s. s.now) O.contents F.step IsScalar encode_utf8_all (R.remaining reader)
-            (λ characters. non_overlapping (kind_of self.now) char_width (dictionary_of self.now) (as_read self.now.folds characters)) result write out.old out.new }
+            (λ characters. non_overlapping (kind_of self.now) char_width (dictionary_of self.now) (as_read self.now.folds characters)) (HasNoLonger char_width (dictionary_of self.now)) result write out.old out.new }
     {
         match self.match_kind() {
             MatchKind::Standard => self.replace_standard(alloc, reader, out, write),
@@ -64,7 +64,7 @@ impl<V: Copy, A: Allocator + Copy> CharwiseDoubleArrayAhoCorasick<V, A> {
         requires kind { kind_of self.now ≡ Standard }
         requires callable { F.IsAlwaysCallable write }
         ensures { ReplacesRead (λ s. s.now) O.contents F.step IsScalar encode_utf8_all (R.remaining reader)
-            (λ characters. non_overlapping (kind_of self.now) char_width (dictionary_of self.now) (as_read self.now.folds characters)) result write out.old out.new }
+            (λ characters. non_overlapping (kind_of self.now) char_width (dictionary_of self.now) (as_read self.now.folds characters)) (HasNoLonger char_width (dictionary_of self.now)) result write out.old out.new }
     {
         let longest = self.longest_pattern()?;
         let source = ReadChars::new(in_blocks(alloc, reader)?);
@@ -89,7 +89,7 @@ impl<V: Copy, A: Allocator + Copy> CharwiseDoubleArrayAhoCorasick<V, A> {
         requires kind { kind_of self.now ≢ Standard }
         requires callable { F.IsAlwaysCallable write }
         ensures { ReplacesRead (λ s. s.now) O.contents F.step IsScalar encode_utf8_all (R.remaining reader)
-            (λ characters. non_overlapping (kind_of self.now) char_width (dictionary_of self.now) (as_read self.now.folds characters)) result write out.old out.new }
+            (λ characters. non_overlapping (kind_of self.now) char_width (dictionary_of self.now) (as_read self.now.folds characters)) (HasNoLonger char_width (dictionary_of self.now)) result write out.old out.new }
     {
         let marks = self.stream_marks(*self.depths.allocator())?;
         let source = ReadChars::new(in_blocks(alloc, reader)?);
@@ -126,7 +126,7 @@ impl<V: Copy, A: Allocator + Copy> Accelerated<V, A> {
     >(&self, alloc: B, reader: R, out: &mut O, write: F) -> io::Result<()>
         requires callable { F.IsAlwaysCallable write }
         ensures { ReplacesRead (λ s. s.now) O.contents F.step IsScalar encode_utf8_all (R.remaining reader)
-            (λ characters. non_overlapping (kind_of self.now.automaton) char_width (dictionary_of self.now.automaton) (as_read self.now.automaton.folds characters)) result write out.old out.new }
+            (λ characters. non_overlapping (kind_of self.now.automaton) char_width (dictionary_of self.now.automaton) (as_read self.now.automaton.folds characters)) (HasNoLonger char_width (dictionary_of self.now.automaton)) result write out.old out.new }
     {
         match self.match_kind() {
             MatchKind::Standard => self.replace_standard(alloc, reader, out, write),
@@ -147,7 +147,7 @@ impl<V: Copy, A: Allocator + Copy> Accelerated<V, A> {
         requires kind { kind_of self.now.automaton ≡ Standard }
         requires callable { F.IsAlwaysCallable write }
         ensures { ReplacesRead (λ s. s.now) O.contents F.step IsScalar encode_utf8_all (R.remaining reader)
-            (λ characters. non_overlapping (kind_of self.now.automaton) char_width (dictionary_of self.now.automaton) (as_read self.now.automaton.folds characters)) result write out.old out.new }
+            (λ characters. non_overlapping (kind_of self.now.automaton) char_width (dictionary_of self.now.automaton) (as_read self.now.automaton.folds characters)) (HasNoLonger char_width (dictionary_of self.now.automaton)) result write out.old out.new }
     {
         let longest = self.automaton().longest_pattern()?;
         let source = ReadChars::new(in_blocks(alloc, reader)?);

@@ -14,7 +14,7 @@ use Rattle.daachorse_haystack.specs.Filters.{IsSoundFor}
 use Rattle.daachorse_prefilter.specs.Asked.{lets_pass}
 use Rattle.daachorse_prefilter.specs.Buckets.{may_begin}
 use Rattle.daachorse_replacing.specs.ByKind.{non_overlapping}
-use Rattle.daachorse_replacing.proofs.ReadLaws.{non_overlapping_apart, read-nothing, replaces-bytes}
+use Rattle.daachorse_replacing.proofs.ReadLaws.{longest-least, non_overlapping_apart, read-nothing, replaces-bytes}
 use Rattle.daachorse_bytewise_states.specs.Parts.{Parts, content}
 use Rattle.daachorse_bytewise_states.specs.Valid.{sees}
 use Rattle.daachorse_streams.specs.Marked.{IsMarkedFor}
@@ -54,4 +54,4 @@ returns g c =
     let M : Parts g.row.V.Denot → Bool → List ℕ → List (Match g.row.V.Denot) = λ p folds units. leftmost byte_width (content p) (as_read folds units) in
     let a = c.args.self.now in
     let same = ap (λ p. M p c.self.inside.folds) c.leftmost-states.ensures ∙ ap (λ (a : Automaton g.row.V.Denot). M a.parts a.folds) c.self.view_is ∙ by_kind byte_width (dictionary_of a) a.folds (kind_of a) c.requires.kind in
-    replaces-bytes _ g.O.Write.contents _ (reader_remaining g.R.Read.remaining) _ _ _ c.new-source.ensures.reader c.in_ok-in_blocks.ensures.reads.left same _ c.replace_leftmost_skipping.result c.replace_leftmost_skipping.ensures.whole c.replace_leftmost_skipping.ensures.beginning
+    replaces-bytes _ g.O.Write.contents _ (reader_remaining g.R.Read.remaining) _ _ _ c.new-source.ensures.reader c.in_ok-in_blocks.ensures.reads.left same _ (longest-least c.in_ok-marks.ensures.ok.longest) c.replace_leftmost_skipping.result c.replace_leftmost_skipping.ensures.whole c.replace_leftmost_skipping.ensures.beginning

@@ -10,8 +10,8 @@ use Rattle.daachorse_model.specs.Matches.{standard}
 use Rattle.daachorse_model.specs.Units.{byte_width}
 use Rattle.daachorse_rows.specs.Rows.{Rowed}
 use Rattle.daachorse_replacing.specs.ByKind.{non_overlapping}
-use Rattle.daachorse_replacing.specs.Streams.{HasNoLonger}
-use Rattle.daachorse_replacing.proofs.ReadLaws.{non_overlapping_apart, read-nothing, replaces-bytes}
+use Rattle.daachorse_replacing.specs.Streams.{HasNoLonger, IsLongest}
+use Rattle.daachorse_replacing.proofs.ReadLaws.{longest-least, non_overlapping_apart, read-nothing, replaces-bytes}
 use Rattle.daachorse_bytewise_states.specs.Parts.{Parts, content}
 use Rattle.daachorse_bytewise.specs.Accelerated.{rowed_states}
 use Rattle.daachorse_bytewise.specs.Automata.{Automaton, dictionary_of, kind_of}
@@ -43,4 +43,5 @@ returns g c =
     let a = c.args.self.now.automaton in
     let by_kind : MatchKind → List ℕ → List (Match g.row.V.Denot) = λ k units. non_overlapping k byte_width (dictionary_of a) (as_read a.folds units) in
     let same = ap (λ r. M r folds.result) c.standard.ensures ∙ ap (λ b. M (rowed_states c.args.self.now) b) option ∙ ap by_kind (sym c.requires.kind) in
-    replaces-bytes _ g.O.Write.contents _ (reader_remaining g.R.Read.remaining) _ _ _ c.new-source.ensures.reader c.in_ok-in_blocks.ensures.reads.left same _ c.replace_from.result c.replace_from.ensures.whole c.replace_from.ensures.beginning
+    let L : Automaton g.row.V.Denot → Type 0 = λ a. IsLongest byte_width (dictionary_of a) c.in_ok-longest.longest in
+    replaces-bytes _ g.O.Write.contents _ (reader_remaining g.R.Read.remaining) _ _ _ c.new-source.ensures.reader c.in_ok-in_blocks.ensures.reads.left same _ (longest-least (subst L c.automaton.ensures c.in_ok-longest.ensures.ok)) c.replace_from.result c.replace_from.ensures.whole c.replace_from.ensures.beginning

@@ -22,8 +22,8 @@
 //!
 //! - [`DoubleArrayAhoCorasick`] searches bytes, and [`CharwiseDoubleArrayAhoCorasick`] text, by
 //!   characters. Their builders set the kind of matches, the prefilter and the layout.
-//! - [`bytewise::Accelerated`] and [`charwise::Accelerated`], made by `accelerate`, search slices
-//!   and texts faster if the automaton is small.
+//! - [`bytewise::Accelerated`] and [`charwise::Accelerated`], made by `accelerate`, have the same
+//!   searches, which are faster if the automaton is small.
 //! - [`MatchKind`] selects the matches to report, and [`Match`] is one of them.
 //! - [`errors`] has the error type of all calls, and [`Result`] is a result with it.
 //! - [`bytewise`] and [`charwise`] have the types of searches, steppers and states.
@@ -33,10 +33,10 @@
 //!
 //! # Cost
 //!
-//! A search allocates nothing. It looks at no more than two states for each unit of the haystack. A
-//! leftmost search adds at most four more for each unit of the longest pattern, at each match. An
-//! element of the double array takes 12 bytes over bytes and 16 over characters, and an output 8
-//! bytes and its value.
+//! A search allocates only as it begins, if it is passed an allocator. It looks at no more than two
+//! states for each unit of the haystack. A leftmost search adds at most four more for each unit of
+//! the longest pattern, at each match. An element of the double array takes 12 bytes over bytes and
+//! 16 over characters, and an output 8 bytes and its value.
 #![tactic(auto)]
 
 pub use daachorse_build::{edge_map, nfa_builder};

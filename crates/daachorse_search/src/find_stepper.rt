@@ -116,8 +116,10 @@ impl<'a, V: Copy, A: Automaton<V>> FindStepper<'a, V, A> {
             found,
         } = standing;
         let walk = FindWalk::resume(automaton, walk, everywhere);
+        let automaton = walk.walked();
         Stepper {
             walk,
+            automaton,
             place,
             depths,
             folds,

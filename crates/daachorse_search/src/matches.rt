@@ -40,12 +40,13 @@ pub struct Matches<V: Copy, W: Stepwise<V>, H: Haystack<W::Unit>, F: Filter<W::U
     // then always `None` on entry if the search reports one match an end, and the compiler drops
     // the check.
     first: Option<NonZeroU32>,
+    // A copy of the walk's automaton, so that a field's type names what is borrowed.
+    automaton: W::Automaton,
     // The turns that the walk took up to where it last began.
     taken: Turns,
     // Counts the matches given.
     seen: Seen,
-    // Names what the walk borrows.
-    of: PhantomData<(V, W::Automaton)>,
+    of: PhantomData<V>,
 }
 
 impl<V: Copy, W: Stepwise<V>, H: Haystack<W::Unit>, F: Filter<W::Unit, H>> Model
@@ -92,6 +93,7 @@ impl<V: Copy, W: Stepwise<V>, H: Haystack<W::Unit>, F: Filter<W::Unit, H>> Match
         walk.turns_are_bounded();
         let size = haystack.left();
         let (first, output) = place_first(&walk);
+        let automaton = walk.walked();
         Matches {
             walk,
             first_filter: Snapshot::of(&filter),
@@ -101,6 +103,7 @@ impl<V: Copy, W: Stepwise<V>, H: Haystack<W::Unit>, F: Filter<W::Unit, H>> Match
             size,
             output,
             first,
+            automaton,
             taken: Turns::new(),
             seen: Seen::new(),
             of: PhantomData,

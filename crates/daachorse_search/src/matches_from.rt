@@ -29,10 +29,11 @@ where
     // The number of bytes read.
     place: usize,
     output: Option<NonZeroU32>,
+    // A copy of the walk's automaton, so that a field's type names what is borrowed.
+    automaton: W::Automaton,
     // Counts the matches given.
     seen: Seen,
-    // Names what the walk borrows.
-    of: PhantomData<(V, W::Automaton)>,
+    of: PhantomData<V>,
 }
 
 impl<V: Copy, W: Stepwise<V>, S: Source<W::Unit>> Model for MatchesFrom<V, W, S>
@@ -77,12 +78,14 @@ where
         ensures most { result.most ≡ W.sees.most_found (W.sees.automaton walk) }
     {
         let output = walk.begin();
+        let automaton = walk.walked();
         Self {
             walk,
             source,
             folds,
             place: 0,
             output,
+            automaton,
             seen: Seen::new(),
             of: PhantomData,
         }

@@ -105,8 +105,10 @@ impl<'a, V: Copy, A: Automaton<V>> FindOverlappingStepper<'a, V, A> {
     {
         let OverlappingStanding { walk, place, found } = standing;
         let walk = OverlappingWalk::resume(automaton, walk);
+        let automaton = walk.walked();
         Stepper {
             walk,
+            automaton,
             place,
             depths,
             folds,

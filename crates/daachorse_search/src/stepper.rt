@@ -49,6 +49,8 @@ pub trait Resumable<V: Copy>: Stepwise<V> {
 #[derive(Drop)]
 pub struct Stepper<'a, V: Copy, W: Stepwise<V>> {
     pub(crate) walk: W,
+    // A copy of the walk's automaton, so that a field's type names what is borrowed.
+    pub(crate) automaton: W::Automaton,
     // The number of bytes consumed.
     pub(crate) place: usize,
     // The depth of each state in units, or empty if none are kept.
@@ -99,8 +101,10 @@ where
         ensures given { result.given ≡ length (W.sees.found (W.sees.automaton walk) []) }
     {
         let found = walk.begin();
+        let automaton = walk.walked();
         Stepper {
             walk,
+            automaton,
             place: 0,
             depths,
             folds,
@@ -175,6 +179,7 @@ impl<'a, V: Copy, W: Resumable<V>> Stepper<'a, V, W> {
     {
         let Stepper {
             walk,
+            automaton: _automaton,
             place,
             depths: _depths,
             folds: _folds,
@@ -193,8 +198,10 @@ impl<'a, V: Copy, W: Stepwise<V>> Clone for Stepper<'a, V, W> {
     #[inline(always)]
     fn clone(&self) -> Result<Self, AllocError> {
         let walk = self.walk.clone()?;
+        let automaton = walk.walked();
         Ok(Stepper {
             walk,
+            automaton,
             place: self.place,
             depths: self.depths,
             folds: self.folds,

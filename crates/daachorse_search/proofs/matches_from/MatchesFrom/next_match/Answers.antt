@@ -35,7 +35,7 @@ reached g c =
           (IsReached-pending ready c.self.invariant.1))))
       | in-None+in_ok-position-in-None w ↦
           let to = w.scan.new in let scanned = w.in_ok-position-in-None in
-          let after : I = record { walk = to.walk; source = to.source; folds = was.folds; place = to.place; output = was.output; seen = was.seen; of = was.of } in
+          let after : I = record { walk = to.walk; source = to.source; folds = was.folds; place = to.place; output = was.output; automaton = was.automaton; seen = was.seen; of = was.of } in
           let At : Seen → Type 0 = λ s. R s after scanned.position.value in
           let none : view.given_from was.walk (number was.output) ≡ [] = ap (λ o. view.given_from was.walk (number o)) w.in-None.is ∙ (g.met.W.Stepwise.no_output was.walk).1 in
           subst P (sym w.self-inside-is) (subst (Q after) (sym w.position-is) (subst At c.self.view_is

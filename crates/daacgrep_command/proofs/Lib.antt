@@ -3,6 +3,7 @@ pub mod Cuts
 pub mod FirstMatch
 pub mod FlagTexts
 pub mod Fronts
+pub mod Marks
 pub mod Parts
 pub mod Passing
 pub mod Requests

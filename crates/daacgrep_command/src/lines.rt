@@ -1,8 +1,9 @@
 //! The lines of a text.
 
-ghost use Rattle.std.specs.Prelude.{◌≡◌, ◌<◌, ◌≤◌, ◌==◌, ◌+◌, ◌-◌, ◌⊎◌, IfSome, count_by, length, position, slice_index};
+ghost use Rattle.std.specs.Prelude.{◌≡◌, ◌<◌, ◌≤◌, ◌==◌, ◌+◌, ◌-◌, ◌⊎◌, IfSome, count_by, drop, length, position, slice_index};
 ghost use Rattle.std.specs.List.{position_or_len};
 ghost use Rattle.daacgrep_command.specs.Lines.{lines_of};
+ghost use Rattle.daacgrep_command.specs.Windows.{HasNone};
 
 use crate::line::Line;
 use std::marker::Model;
@@ -94,11 +95,13 @@ fn mark_place(mark: u8, text: &[u8]) -> Option<usize>
 pub fn behind_last(mark: u8, text: &[u8]) -> usize
     ensures within { result ≤ length text.now }
     ensures behind { (result ≡ 0) ⊎ ((0 < result) × (slice_index text.now (result - 1) ≡ mark)) }
+    ensures last { HasNone mark (drop result text.now) }
 {
-    match text.iter().rposition(|byte| *byte == mark) {
-        Some(place) => place + 1,
-        None => 0,
+    let mut place = text.len();
+    while place > 0 && text[place - 1] != mark {
+        place -= 1;
     }
+    place
 }
 
 /// Returns how many marks there are.

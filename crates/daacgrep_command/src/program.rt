@@ -1,5 +1,8 @@
 //! What the program has around its command: its words, its files and its streams.
 
+ghost use Rattle.std.specs.Prelude.{◌≤◌, IfOk, length};
+ghost use Rattle.std.specs.Io.KnownBytes.{ReadConsumes};
+
 use crate::command::command;
 use crate::outputs::Outputs;
 use crate::streams::{ReadError, Streams};
@@ -65,20 +68,27 @@ impl<R: Files + Input + AllocGlobal> Streams for SystemInputs<'_, R> {
     }
 
     fn read_next(&mut self, buffer: &mut [u8]) -> Result<usize, ReadError> {
-        for _try in 0..TRIES {
-            let read = match &mut self.opened {
-                Some(Opened::File(file)) => file.read(buffer),
-                Some(Opened::Input(input)) => input.read(buffer),
-                None => return Err(ReadError),
-            };
-            match read {
-                Ok(count) => return Ok(count),
-                Err(error) if error.kind() == ErrorKind::Interrupted => {}
-                Err(_) => return Err(ReadError),
-            }
+        match &mut self.opened {
+            Some(Opened::File(file)) => read_of(file, buffer),
+            Some(Opened::Input(input)) => read_of(input, buffer),
+            None => Err(ReadError),
         }
-        Err(ReadError)
     }
+}
+
+// Reads the next bytes, and returns how many. A read that was interrupted is tried again.
+fn read_of<R: Read>(from: &mut R, buffer: &mut [u8]) -> Result<usize, ReadError>
+    ensures bound { IfOk result (λ n. n ≤ length buffer.new) }
+    ensures bytes { ReadConsumes (R.remaining from.old) (R.remaining from.new) result buffer.new }
+{
+    for _try in 0..TRIES {
+        match from.read(buffer) {
+            Ok(count) => return Ok(count),
+            Err(error) if error.kind() == ErrorKind::Interrupted => {}
+            Err(_) => return Err(ReadError),
+        }
+    }
+    Err(ReadError)
 }
 
 /// The files of the system, and standard output by the name `-`.

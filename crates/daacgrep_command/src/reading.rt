@@ -1,6 +1,6 @@
 //! The search of a file as it is read.
 
-ghost use Rattle.std.specs.Prelude.{◌≡◌, ◌≤◌, ◌<◌, ◌+◌, ◌-◌, ◌==◌, ◌&&◌, ◌⊎◌, ◌++◌, if◌then◌else◌, IfOk, OnOk, count_by, drop, length, map, nat_lt, slice_index, take};
+ghost use Rattle.std.specs.Prelude.{◌≡◌, ◌≤◌, ◌+◌, ◌==◌, ◌&&◌, ◌++◌, if◌then◌else◌, IfOk, OnOk, count_by, drop, length, map, nat_lt, take};
 ghost use Rattle.daacfind_command.specs.Runs.{IsWritten};
 ghost use Rattle.daacgrep_command.specs.Lines.{lines_from, pieces_of};
 ghost use Rattle.daacgrep_command.specs.Printed.{end_of, lines_text, selected_count};
@@ -9,7 +9,7 @@ ghost use Rattle.daacgrep_command.specs.Sought.{sought_of};
 
 use crate::files::Outcome;
 use crate::line::Part;
-use crate::lines::{behind_last, count_marks};
+use crate::lines::count_marks;
 use crate::search::{Report, Task, write_end, write_selected};
 use crate::searcher::Searcher;
 use crate::streams::{ReadError, Streams};
@@ -40,29 +40,26 @@ pub fn search_open<I: Streams, S: Sink, A: Allocator>(
     ensures same { I.Inputs.given files.new ≡ I.Inputs.given files.old }
     ensures searched { IsFileSearched (sought_of searcher.now) (map (λ r. r.now) rules.now) task name.now (I.left files.old) (S.taken out.old) (S.taken out.new) (S.failures out.old) (S.failures out.new) result }
 {
-    window.begin();
+    window.begin(task.labels.end);
     let mut progress = Progress {
         lines: 0,
         selected: 0,
     };
-    for _turn in 0..u64::MAX {
+    while !is_settled(task.report, progress.selected) {
         match window.read_on(files) {
             Ok(count) => {
                 if count == 0 {
                     return finish(searcher, rules, task, name, progress, false, window, out);
                 }
-                let len = complete_len(task.labels.end, window.bytes(), count);
+                let len = window.complete_len(count);
                 progress = search_on(searcher, rules, task, name, progress, len, window, out)?;
             }
             Err(ReadError) => {
                 return finish(searcher, rules, task, name, progress, true, window, out);
             }
         }
-        if is_settled(task.report, progress.selected) {
-            return finish(searcher, rules, task, name, progress, false, window, out);
-        }
     }
-    finish(searcher, rules, task, name, progress, true, window, out)
+    finish(searcher, rules, task, name, progress, false, window, out)
 }
 
 // Searches the bytes that are held as the last line, and writes what stands behind the lines.
@@ -102,19 +99,6 @@ fn is_settled(report: Report, selected: usize) -> bool
     }
 }
 
-// How many bytes the lines take that are complete, where the last `count` bytes are new.
-fn complete_len(mark: u8, bytes: &[u8], count: usize) -> usize
-    requires { count ≤ length bytes.now }
-    ensures within { result ≤ length bytes.now }
-    ensures closed { (result ≡ 0) ⊎ ((0 < result) × (slice_index bytes.now (result - 1) ≡ mark)) }
-{
-    let old = bytes.len() - count;
-    match behind_last(mark, &bytes[old..]) {
-        0 => 0,
-        place => old + place,
-    }
-}
-
 // Searches the lines that the first bytes of the window are, and passes over them.
 fn search_on<S: Sink, A: Allocator>(
     searcher: &Searcher<A>,
@@ -128,6 +112,7 @@ fn search_on<S: Sink, A: Allocator>(
 ) -> Result<Progress, SinkError>
     requires within { len ≤ length window.old.bytes }
     requires few { IsWithin progress window.old.start }
+    ensures mark { window.new.mark ≡ window.old.mark }
     ensures start { OnOk result (window.new.start ≡ window.old.start + len) }
     ensures bytes { OnOk result (window.new.bytes ≡ drop len window.old.bytes) }
     ensures written { IsWritten (S.taken out.old) (S.taken out.new) (S.failures out.old) (S.failures out.new) result

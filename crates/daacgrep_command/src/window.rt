@@ -1,9 +1,10 @@
 //! A part of a file that is read piece by piece.
 
-ghost use Rattle.std.specs.Prelude.{◌≡◌, ◌+◌, ◌<◌, ◌≤◌, ◌^◌, [], ℕ, IfOk, List, OnErr, drop, length};
+ghost use Rattle.std.specs.Prelude.{◌≡◌, ◌⊎◌, ◌+◌, ◌-◌, ◌<◌, ◌≤◌, ◌==◌, ◌^◌, [], ℕ, IfOk, List, OnErr, count_by, drop, length, slice_index, take};
 ghost use Rattle.std.specs.Io.KnownBytes.{Consumes};
-ghost use Rattle.daacgrep_command.specs.Windows.{IsReadOn};
+ghost use Rattle.daacgrep_command.specs.Windows.{HasNone, IsReadOn};
 
+use crate::lines::behind_last;
 use crate::streams::{ReadError, Streams};
 use std::alloc::{AllocError, Global};
 use std::marker::Model;
@@ -18,6 +19,8 @@ pub struct Window {
     held: Vec<u8>,
     // The place in the file where the held bytes begin.
     start: usize,
+    // The byte that ends lines.
+    mark: u8,
 }
 
 impl Model for Window {
@@ -26,7 +29,7 @@ impl Model for Window {
 
     ghost Value = { Held };
 
-    ghost view = { λ s. record { start = s.start; bytes = s.held.items } };
+    ghost view = { λ s. record { start = s.start; bytes = s.held.items; mark = s.mark } };
 
     ghost invariant = { λ s. (0 < length s.piece.items) × (s.start + length s.held.items < 2 ^ 64) };
 }
@@ -38,16 +41,19 @@ impl Window {
             piece: Vec::from_elem(alloc, 0u8, PIECE)?,
             held: Vec::new(alloc),
             start: 0,
+            mark: b'\n',
         })
     }
 
-    /// Begins at the front of a file.
-    pub fn begin(&mut self)
+    /// Begins at the front of a file, where the mark ends lines.
+    pub fn begin(&mut self, mark: u8)
+        ensures mark { self.new.mark ≡ mark }
         ensures start { self.new.start ≡ 0 }
         ensures bytes { self.new.bytes ≡ [] }
     {
         self.held.clear();
         self.start = 0;
+        self.mark = mark;
     }
 
     /// Returns the bytes that are held.
@@ -67,14 +73,18 @@ impl Window {
         self.start
     }
 
-    /// Reads on, and returns how many bytes more are held: 0 at the end.
+    /// Reads on, and returns how many bytes more are held: 0 at the end. No line that is complete may
+    /// be held.
     ///
     /// # Errors
     ///
     /// An error of the file, a failed allocation, or a place that is too great.
     pub fn read_on<I: Streams>(&mut self, files: &mut I) -> Result<usize, ReadError>
+        requires passed { HasNone self.old.mark self.old.bytes }
         ensures same { I.Inputs.given files.new ≡ I.Inputs.given files.old }
         ensures start { self.new.start ≡ self.old.start }
+        ensures mark { self.new.mark ≡ self.old.mark }
+        ensures within { self.new.start + length self.new.bytes < 2 ^ 64 }
         ensures ok { IfOk result (λ n. IsReadOn (I.left files.old) (I.left files.new) self.old.bytes self.new.bytes n) }
         ensures kept { OnErr result (self.new.bytes ≡ self.old.bytes) }
         ensures lost { OnErr result ((lost : List ℕ) × Consumes (I.left files.old) (I.left files.new) lost) }
@@ -90,9 +100,25 @@ impl Window {
         }
     }
 
+    /// Returns how many bytes the lines take that are complete, where the last `count` bytes are new.
+    pub fn complete_len(&self, count: usize) -> usize
+        requires new { count ≤ length self.now.bytes }
+        requires none { HasNone self.now.mark (take (length self.now.bytes - count) self.now.bytes) }
+        ensures within { result ≤ length self.now.bytes }
+        ensures closed { (result ≡ 0) ⊎ ((0 < result) × (slice_index self.now.bytes (result - 1) ≡ self.now.mark)) }
+        ensures rest { HasNone self.now.mark (drop result self.now.bytes) }
+    {
+        let old = self.held.len() - count;
+        match behind_last(self.mark, &self.held[old..]) {
+            0 => 0,
+            place => old + place,
+        }
+    }
+
     /// Passes over the first bytes that are held.
     pub fn pass(&mut self, count: usize)
         requires { count ≤ length self.old.bytes }
+        ensures mark { self.new.mark ≡ self.old.mark }
         ensures start { self.new.start ≡ self.old.start + count }
         ensures bytes { self.new.bytes ≡ drop count self.old.bytes }
     {

@@ -1,6 +1,6 @@
 //! The automaton that is asked for: built of patterns or read from a file, and written to one.
 
-ghost use Rattle.std.specs.Prelude.{◌≡◌, ◌∷◌, [], ◌<◌, ◌^◌, ℕ, IfOk, IsTrue, List, OnErr, OnOk, map};
+ghost use Rattle.std.specs.Prelude.{◌≡◌, ◌∷◌, [], ◌<◌, ◌^◌, ◌↔◌, ℕ, IfOk, IsTrue, List, OnErr, OnOk, map};
 ghost use Rattle.std.specs.Int.{w32};
 ghost use Rattle.daachorse_bytewise.specs.Automata.{kind_of};
 ghost use Rattle.daachorse_bytewise.specs.Building.{IsBuiltOf};
@@ -112,7 +112,7 @@ fn is_saved_with(
     options: &Options<'_, Global>,
     automaton: &DoubleArrayAhoCorasick<u32, Global>,
 ) -> bool
-    ensures { IsTrue result → IsSavedWith options.now.flags automaton.now }
+    ensures { IsTrue result ↔ IsSavedWith options.now.flags automaton.now }
 {
     automaton.match_kind() == kind(options)
         && automaton.is_ascii_case_insensitive() == options.has(Flag::IgnoreCase)

@@ -26,7 +26,7 @@ use Rattle.daacgrep_command.specs.declared.flag.Flag.TheVariants.{Help, IgnoreCa
 use Rattle.daacgrep_command.specs.Flags.{asks}
 use Rattle.daacgrep_command.specs.Lines.{TextLine, lines_from, lines_of}
 use Rattle.daacgrep_command.specs.Options.{Asked, CanBeMet, last_of, options_of, requests}
-use Rattle.daacgrep_command.specs.Asked.{AreFilesOf, AreSearched, AreSought, Ends, EndsBy, GivenFile, GivesPatterns, HasRead, IsAnswer, IsAutomatonAsked, IsCutOff, IsSave, IsSearch, IsSearched, IsWork, both, closed_file, dictionary_asked, files_text, is_unread, kind_asked, names_asked, names_patterns, outcome_of, rules_asked, selects_of, shown, sought_asked, status_of, status_of_outcome, task_of, tells_of_itself, text_of_file}
+use Rattle.daacgrep_command.specs.Asked.{AreFilesOf, AreSearched, AreSought, Ends, EndsBy, GivenFile, GivesPatterns, HasRead, IsAnswer, IsAutomatonAsked, IsCutOff, IsOfItself, IsSave, IsSearch, IsSearched, IsUsage, IsWork, both, closed_file, dictionary_asked, files_text, is_unread, kind_asked, names_asked, names_patterns, outcome_of, rules_asked, selects_of, shown, sought_asked, status_of, status_of_outcome, task_of, tells_of_itself, text_of_file, version_text}
 use Rattle.daacgrep_command.specs.Printed.{file_text, has_selected}
 use Rattle.daacgrep_command.specs.Reading.{IsFileSearched}
 use Rattle.daacgrep_command.specs.Streams.{Has, IsOpened, TellsOf}
@@ -153,11 +153,25 @@ stores_none : (old : Option (List SavedFile)) → Stores old old []
 stores_none None = refl
 stores_none (Some files) = ap Some (sym (append-nil files))
 
+either : {X : Type 0} (b : Bool) → b ≡ true → b ≡ false → X
+either true t f = cc
+either false t f = cc
+
+-- the text is the usage where that is asked for, and else the version
+pub its_usage : (asked : Asked) (text : List ℕ) (a : Bool) → a ≡ asks Help asked.flags → a ≡ true → IsUsage text → IsOfItself asked text
+its_usage asked text a e t is = record { usage = λ _. is; version = λ no. either a t (e ∙ no) }
+
+pub its_version : (asked : Asked) (text : List ℕ) (a : Bool) → a ≡ asks Help asked.flags → a ≡ false → text ≡ version_text → IsOfItself asked text
+its_version asked text a e f is = record { usage = λ yes. either a (e ∙ yes) f; version = λ _. is }
+
 module _ {E : Type 0} (asked : Asked) (given : Files) (a b : Option (List ℕ)) (f g : ℕ) (c : Option (List SavedFile)) where
   -- the usage or the version was told
-  pub ends_told : (r : Result ℕ E) (text : List ℕ) → tells_of_itself asked ≡ true → IsWritten {T = ℕ} {E = E} a b f g r text → IfOk r (λ s. s ≡ 0) → Ends asked given a b f g c c r
-  ends_told (Ok s) text t w e = record { text = text; saved = []; is_answer = inl (t, refl, e); written = w.whole; stored = stores_none c; unfailed = w.unfailed }
-  ends_told (Err x) text t w e = inr (record { text = text; status = 0; is_answer = inl (t, refl, refl); written = w.beginning; kept = refl; failed = w.failed })
+  pub ends_told : (r : Result ℕ E) (text : List ℕ) → tells_of_itself asked ≡ true → IsOfItself asked text
+      → IsWritten {T = ℕ} {E = E} a b f g r text → IfOk r (λ s. s ≡ 0) → Ends asked given a b f g c c r
+  ends_told (Ok s) text t its w e =
+      record { text = text; saved = []; is_answer = inl (t, its, refl, e); written = w.whole; stored = stores_none c; unfailed = w.unfailed }
+  ends_told (Err x) text t its w e =
+      inr (record { text = text; status = 0; is_answer = inl (t, its, refl, refl); written = w.beginning; kept = refl; failed = w.failed })
 
 module _ (asked : Asked) (given : Files) (text : List ℕ) (gives : GivesPatterns asked given text) (named : names_patterns asked ≡ true) (told : tells_of_itself asked ≡ false) where
   module _ (nothing : last_of asked.saves ≡ None) (K : Dictionary ℕ) (sought : AreSought asked.flags given (rules_asked asked gives.files) (last_of asked.loads) K) where

@@ -235,9 +235,23 @@ IsWork asked given (Some name) text saved status = (text ≡ []) × (status ≡ 
 abbrev pub tells_of_itself : Asked → Bool
 tells_of_itself asked = asks Help asked.flags || asks Version asked.flags
 
+-- the text of the version, and how that of the usage begins
+abbrev pub version_text : List ℕ
+version_text = codes "daacgrep 1.0.0\n"
+
+abbrev pub IsUsage : List ℕ → Type 0
+IsUsage text = (rest : List ℕ) × (text ≡ codes "usage: daacgrep" ++ rest)
+
+-- the text is the usage, where that is asked for, and else the version
+pub record IsOfItself (asked : Asked) (text : List ℕ) : Type 0 where
+  pub usage : asks Help asked.flags ≡ true → IsUsage text
+  pub version : asks Help asked.flags ≡ false → text ≡ version_text
+
 -- this text and these files are asked for, and this status at the end
 abbrev pub IsAnswer : Asked → Option (List ℕ → Option (List ℕ)) → List ℕ → List SavedFile → ℕ → Type 0
-IsAnswer asked given text saved status = ((tells_of_itself asked ≡ true) × (saved ≡ []) × (status ≡ 0)) ⊎ ((tells_of_itself asked ≡ false) × IsWork asked given (last_of asked.saves) text saved status)
+IsAnswer asked given text saved status =
+    ((tells_of_itself asked ≡ true) × IsOfItself asked text × (saved ≡ []) × (status ≡ 0))
+    ⊎ ((tells_of_itself asked ≡ false) × IsWork asked given (last_of asked.saves) text saved status)
 
 module _ (asked : Asked) (given : Option (List ℕ → Option (List ℕ))) (old new : Option (List ℕ)) (failures_old failures_new : ℕ) (saved_old saved_new : Option (List SavedFile)) where
   -- all that is asked for was written

@@ -1,8 +1,8 @@
 //! The command: from the words of a command line to a status.
 
-ghost use Rattle.std.specs.Prelude.{◌≡◌, IfOk, map};
+ghost use Rattle.std.specs.Prelude.{◌≡◌, ◌<◌, IfOk, OnOk, map};
 ghost use Rattle.daacfind_command.specs.Runs.{IsWritten};
-ghost use Rattle.daacgrep_command.specs.Asked.{Ends, EndsBy, IsSearched, end_asked, names_asked, report_asked, status_of, task_of};
+ghost use Rattle.daacgrep_command.specs.Asked.{Ends, EndsBy, IsSearched, IsUsage, end_asked, names_asked, report_asked, status_of, task_of, version_text};
 ghost use Rattle.daacgrep_command.specs.Sought.{sought_of};
 
 use crate::automaton::{automaton, save};
@@ -21,7 +21,83 @@ use daacfind_command::sink::{Sink, SinkText, write_whole};
 use std::alloc::Global;
 use std::fmt::Write;
 
-const USAGE: &str = "\
+// The names that are searched where none is given.
+const STANDARD_INPUT: &[&str] = &["-"];
+
+/// Runs the command, and returns its status: 0 if a line is selected, 1 if none is, and 2 after
+/// trouble. A file that cannot be read, or not to its end, is told of on `err`, and the search goes
+/// on with the next.
+/// With `--save` the automaton is written to `saved`, the status is 0, and no file is searched.
+pub fn command<I: Streams, O: Outputs, S: Sink, E: Sink>(
+    alloc: Global,
+    words: &[&str],
+    files: &mut I,
+    saved: &mut O,
+    out: &mut S,
+    err: &mut E,
+) -> u8
+    ensures ends { EndsBy (map (λ w. w.now) words.now) (I.Inputs.given files.old) (S.taken out.old) (S.taken out.new) (S.failures out.old) (S.failures out.new) (O.saved saved.old) (O.saved saved.new) result }
+    ensures flushed { result < 2 → S.unflushed out.old ≡ 0 → S.unflushed out.new ≡ 0 }
+{
+    match attempt(alloc, words, files, saved, out, err) {
+        Ok(status) => status,
+        Err(error) => {
+            let _ = writeln!(SinkText { sink: err }, "{error}");
+            2
+        }
+    }
+}
+
+fn attempt<'a, I: Streams, O: Outputs, S: Sink, E: Sink>(
+    alloc: Global,
+    words: &[&'a str],
+    files: &mut I,
+    saved: &mut O,
+    out: &mut S,
+    err: &mut E,
+) -> Result<u8, CommandError<'a>>
+    ensures ends { EndsBy (map (λ w. w.now) words.now) (I.Inputs.given files.old) (S.taken out.old) (S.taken out.new) (S.failures out.old) (S.failures out.new) (O.saved saved.old) (O.saved saved.new) (status_of result) }
+    ensures flushed { OnOk result (S.unflushed out.old ≡ 0 → S.unflushed out.new ≡ 0) }
+{
+    let options = Options::read(alloc, words)?;
+    answer(alloc, &options, files, saved, out, err)
+}
+
+// Does what the options ask for.
+fn answer<'a, I: Streams, O: Outputs, S: Sink, E: Sink>(
+    alloc: Global,
+    options: &Options<'a, Global>,
+    files: &mut I,
+    saved: &mut O,
+    out: &mut S,
+    err: &mut E,
+) -> Result<u8, CommandError<'a>>
+    ensures ends { Ends options.now (I.Inputs.given files.old) (S.taken out.old) (S.taken out.new) (S.failures out.old) (S.failures out.new) (O.saved saved.old) (O.saved saved.new) result }
+    ensures flushed { OnOk result (S.unflushed out.old ≡ 0 → S.unflushed out.new ≡ 0) }
+{
+    if options.has(Flag::Help) {
+        return told(usage(), out);
+    }
+    if options.has(Flag::Version) {
+        return told(version(), out);
+    }
+    let text = text(alloc, options, files, err)?;
+    let rules = lines(alloc, &text)?;
+    let automaton = automaton(alloc, options, &rules, files)?;
+    match options.save_file() {
+        Some(name) => save(alloc, &automaton, name, saved),
+        None => {
+            let searcher = Searcher::new(alloc, automaton);
+            let mut window = Window::new(alloc)?;
+            search(&searcher, &rules, options, files, &mut window, out, err)
+        }
+    }
+}
+
+fn usage() -> &'static str
+    ensures { IsUsage result.now }
+{
+    "\
 usage: daacgrep [OPTION..] -e PATTERN | -f PATTERNS | --load FILE [FILE..]
 Prints the lines of files, or of standard input, in which a pattern occurs.
   -e PATTERN  a pattern; again for more
@@ -45,84 +121,20 @@ Prints the lines of files, or of standard input, in which a pattern occurs.
   --null-data zero bytes end lines, and not line feeds
   --help, --version
 Status: 0 if a line is selected, 1 if none, 2 after trouble.
-";
-
-const VERSION: &str = "daacgrep 1.0.0\n";
-
-// The names that are searched where none is given.
-const STANDARD_INPUT: &[&str] = &["-"];
-
-/// Runs the command, and returns its status: 0 if a line is selected, 1 if none is, and 2 after
-/// trouble. A file that cannot be read, or not to its end, is told of on `err`, and the search goes
-/// on with the next.
-/// With `--save` the automaton is written to `saved`, the status is 0, and no file is searched.
-pub fn command<I: Streams, O: Outputs, S: Sink, E: Sink>(
-    alloc: Global,
-    words: &[&str],
-    files: &mut I,
-    saved: &mut O,
-    out: &mut S,
-    err: &mut E,
-) -> u8
-    ensures { EndsBy (map (λ w. w.now) words.now) (I.Inputs.given files.old) (S.taken out.old) (S.taken out.new) (S.failures out.old) (S.failures out.new) (O.saved saved.old) (O.saved saved.new) result }
-{
-    match attempt(alloc, words, files, saved, out, err) {
-        Ok(status) => status,
-        Err(error) => {
-            let _ = writeln!(SinkText { sink: err }, "{error}");
-            2
-        }
-    }
+"
 }
 
-fn attempt<'a, I: Streams, O: Outputs, S: Sink, E: Sink>(
-    alloc: Global,
-    words: &[&'a str],
-    files: &mut I,
-    saved: &mut O,
-    out: &mut S,
-    err: &mut E,
-) -> Result<u8, CommandError<'a>>
-    ensures { EndsBy (map (λ w. w.now) words.now) (I.Inputs.given files.old) (S.taken out.old) (S.taken out.new) (S.failures out.old) (S.failures out.new) (O.saved saved.old) (O.saved saved.new) (status_of result) }
+fn version() -> &'static str
+    ensures { result.now ≡ version_text }
 {
-    let options = Options::read(alloc, words)?;
-    answer(alloc, &options, files, saved, out, err)
-}
-
-// Does what the options ask for.
-fn answer<'a, I: Streams, O: Outputs, S: Sink, E: Sink>(
-    alloc: Global,
-    options: &Options<'a, Global>,
-    files: &mut I,
-    saved: &mut O,
-    out: &mut S,
-    err: &mut E,
-) -> Result<u8, CommandError<'a>>
-    ensures { Ends options.now (I.Inputs.given files.old) (S.taken out.old) (S.taken out.new) (S.failures out.old) (S.failures out.new) (O.saved saved.old) (O.saved saved.new) result }
-{
-    if options.has(Flag::Help) {
-        return told(USAGE, out);
-    }
-    if options.has(Flag::Version) {
-        return told(VERSION, out);
-    }
-    let text = text(alloc, options, files, err)?;
-    let rules = lines(alloc, &text)?;
-    let automaton = automaton(alloc, options, &rules, files)?;
-    match options.save_file() {
-        Some(name) => save(alloc, &automaton, name, saved),
-        None => {
-            let searcher = Searcher::new(alloc, automaton);
-            let mut window = Window::new(alloc)?;
-            search(&searcher, &rules, options, files, &mut window, out, err)
-        }
-    }
+    "daacgrep 1.0.0\n"
 }
 
 // Writes a text, and flushes the sink.
 fn told<'a, S: Sink>(text: &str, out: &mut S) -> Result<u8, CommandError<'a>>
     ensures written { IsWritten (S.taken out.old) (S.taken out.new) (S.failures out.old) (S.failures out.new) result text.now }
     ensures status { IfOk result (λ status. status ≡ 0) }
+    ensures flushed { OnOk result (S.unflushed out.new ≡ 0) }
 {
     write_whole(out, text.as_bytes())?;
     out.flush()?;
@@ -139,7 +151,8 @@ fn search<'a, I: Streams, S: Sink, E: Sink>(
     out: &mut S,
     err: &mut E,
 ) -> Result<u8, CommandError<'a>>
-    ensures { IsSearched (sought_of searcher.now) (map (λ r. r.now) rules.now) options.now (I.Inputs.given files.old) (S.taken out.old) (S.taken out.new) (S.failures out.old) (S.failures out.new) result }
+    ensures flushed { OnOk result (S.unflushed out.new ≡ 0) }
+    ensures searched { IsSearched (sought_of searcher.now) (map (λ r. r.now) rules.now) options.now (I.Inputs.given files.old) (S.taken out.old) (S.taken out.new) (S.failures out.old) (S.failures out.new) result }
 {
     let names = named(options);
     let outcome = search_files(

@@ -5,41 +5,43 @@ use Rattle.std.proofs.KnownBytes.{Keeps-refl}
 use Rattle.std.proofs.lemmas.Result.{err_from_is_err_and}
 use Rattle.daachorse_model.specs.Program.{pattern_lines}
 use Rattle.daacgrep_command.specs.Asked.{rules_asked}
-use Rattle.daacgrep_command.proofs.Asking.{ends_saved, ends_searched, ends_told, tells_nothing, tells_usage, tells_version}
+use Rattle.daacgrep_command.proofs.Asking.{ends_saved, ends_searched, ends_told, its_usage, its_version, tells_nothing, tells_usage, tells_version}
 use Rattle.daacgrep_command.proofs.command.answer.Goals as goal
 
-pub returns-then-has : goal.returns-then-has
-returns-then-has g c =
+pub returns-then-has-clause-ends : goal.returns-then-has-clause-ends
+returns-then-has-clause-ends g c =
     let o = c.args.options.now in
-    ends_told o (g.I.Inputs.given c.args.files.now) _ _ _ _ _ c.told.result _ (tells_usage o.flags c.has.result c.has.ensures c.if-has.true) c.told.ensures.written c.told.ensures.status
+    ends_told o (g.I.Inputs.given c.args.files.now) _ _ _ _ _ c.told.result _ (tells_usage o.flags c.has.result c.has.ensures c.if-has.true)
+    (its_usage o _ c.has.result c.has.ensures c.if-has.true c.usage.ensures) c.told.ensures.written c.told.ensures.status
 
-pub returns-then-has-2 : goal.returns-then-has-2
-returns-then-has-2 g c =
+pub returns-then-has-2-clause-ends : goal.returns-then-has-2-clause-ends
+returns-then-has-2-clause-ends g c =
     let o = c.args.options.now in
-    ends_told o (g.I.Inputs.given c.args.files.now) _ _ _ _ _ c.told-then-has-2.result _ (tells_version o.flags c.has.result c.has-2.result c.has.ensures c.if-has.false c.has-2.ensures c.if-has-2.true) c.told-then-has-2.ensures.written c.told-then-has-2.ensures.status
+    ends_told o (g.I.Inputs.given c.args.files.now) _ _ _ _ _ c.told-then-has-2.result _ (tells_version o.flags c.has.result c.has-2.result c.has.ensures c.if-has.false c.has-2.ensures c.if-has-2.true)
+    (its_version o _ c.has.result c.has.ensures c.if-has.false c.version.ensures) c.told-then-has-2.ensures.written c.told-then-has-2.ensures.status
 
-pub returns-in_err-text : goal.returns-in_err-text
-returns-in_err-text g c =
+pub returns-in_err-text-clause-ends : goal.returns-in_err-text-clause-ends
+returns-in_err-text-clause-ends g c =
     let p = err_from_is_err_and c.from_residual.result c.from_residual.ensures.1 in
     rw p.1 (inl (Keeps-refl _, refl, refl))
 
-pub returns-in_err-rules : goal.returns-in_err-rules
-returns-in_err-rules g c =
+pub returns-in_err-rules-clause-ends : goal.returns-in_err-rules-clause-ends
+returns-in_err-rules-clause-ends g c =
     let p = err_from_is_err_and c.from_residual-in_err-rules.result c.from_residual-in_err-rules.ensures.1 in
     rw p.1 (inl (Keeps-refl _, refl, refl))
 
-pub returns-in_err-automaton : goal.returns-in_err-automaton
-returns-in_err-automaton g c =
+pub returns-in_err-automaton-clause-ends : goal.returns-in_err-automaton-clause-ends
+returns-in_err-automaton-clause-ends g c =
     let p = err_from_is_err_and c.from_residual-in_err-automaton.result c.from_residual-in_err-automaton.ensures.1 in
     rw p.1 (inl (Keeps-refl _, refl, refl))
 
-pub returns-in_err-window-in-None : goal.returns-in_err-window-in-None
-returns-in_err-window-in-None g c =
+pub returns-in_err-window-in-None-clause-ends : goal.returns-in_err-window-in-None-clause-ends
+returns-in_err-window-in-None-clause-ends g c =
     let p = err_from_is_err_and c.from_residual-in_err-window-in-None.result c.from_residual-in_err-window-in-None.ensures.1 in
     rw p.1 (inl (Keeps-refl _, refl, refl))
 
-pub returns-in-Some : goal.returns-in-Some
-returns-in-Some g c =
+pub returns-in-Some-clause-ends : goal.returns-in-Some-clause-ends
+returns-in-Some-clause-ends g c =
     let o = c.args.options.now in
     let given = g.I.Inputs.given c.args.files.now in
     let rules = map (λ (r : Bor (List ℕ)). r.now) c.in_ok-rules.rules.items in
@@ -50,8 +52,8 @@ returns-in-Some g c =
     let s = c.save.ensures in
     ends_saved o given _ _ _ _ _ gives rules c.in_ok-automaton.automaton c.in-Some.name.now c.save.result c.in_ok-text.ensures.named told are_rules is_asked (sym c.in-Some.ensures) s.status s.automaton s.stored s.kept
 
-pub returns : goal.returns
-returns g c =
+pub returns-clause-ends : goal.returns-clause-ends
+returns-clause-ends g c =
     let o = c.args.options.now in
     let given = g.I.Inputs.given c.args.files.now in
     let rules = map (λ (r : Bor (List ℕ)). r.now) c.in_ok-rules.rules.items in
@@ -59,5 +61,5 @@ returns g c =
     let told = tells_nothing o.flags c.has.result c.has-2.result c.has.ensures c.if-has.false c.has-2.ensures c.if-has-2.false in
     let is_asked = rw (c.in_ok-text.ensures.given, c.deref-2.ensures.value) at c.in_ok-automaton.ensures.ok in
     let are_rules : rules ≡ rules_asked o gives.files = c.in_ok-rules.ensures ∙ ap pattern_lines (c.deref.ensures.value ∙ gives.is) in
-    let searched = rw (c.in_ok-automaton.ensures.given, c.in_ok-text.ensures.given, c.deref-in-None.ensures.value, c.new-searcher.ensures) at c.search.ensures in
+    let searched = rw (c.in_ok-automaton.ensures.given, c.in_ok-text.ensures.given, c.deref-in-None.ensures.value, c.new-searcher.ensures) at c.search.ensures.searched in
     ends_searched o given _ gives c.in_ok-text.ensures.named told rules are_rules c.in_ok-automaton.automaton is_asked _ _ _ _ _ c.search.result (sym c.in-None.ensures) searched

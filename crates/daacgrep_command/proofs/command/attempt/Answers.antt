@@ -6,12 +6,12 @@ use Rattle.std.proofs.lemmas.Result.{err_from_is_err_and}
 use Rattle.daacgrep_command.proofs.Asking.{ends_by}
 use Rattle.daacgrep_command.proofs.command.attempt.Goals as goal
 
-pub returns-in_err-options : goal.returns-in_err-options
-returns-in_err-options g c =
+pub returns-in_err-options-clause-ends : goal.returns-in_err-options-clause-ends
+returns-in_err-options-clause-ends g c =
     let p = err_from_is_err_and c.from_residual.result c.from_residual.ensures.1 in
     rw p.1 (inr (refl, inl (Keeps-refl _, refl, refl)))
 
-pub returns : goal.returns
-returns g c =
+pub returns-clause-ends : goal.returns-clause-ends
+returns-clause-ends g c =
     let words = map (λ (w : Bor (List ℕ)). w.now) c.args.words.now in
-    ends_by words c.in_ok-options.options (g.I.Inputs.given c.args.files.now) _ _ _ _ _ _ c.answer.result c.in_ok-options.ensures.met c.in_ok-options.ensures.ok c.answer.ensures
+    ends_by words c.in_ok-options.options (g.I.Inputs.given c.args.files.now) _ _ _ _ _ _ c.answer.result c.in_ok-options.ensures.met c.in_ok-options.ensures.ok c.answer.ensures.ends

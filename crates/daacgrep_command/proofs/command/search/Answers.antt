@@ -6,19 +6,19 @@ use Rattle.daacgrep_command.specs.Sought.{sought_of}
 use Rattle.daacgrep_command.proofs.Asking.{search_done, search_failed, search_unflushed}
 use Rattle.daacgrep_command.proofs.command.search.Goals as goal
 
-pub returns-in_err-outcome : goal.returns-in_err-outcome
-returns-in_err-outcome g c =
+pub returns-in_err-outcome-clause-searched : goal.returns-in_err-outcome-clause-searched
+returns-in_err-outcome-clause-searched g c =
     let s = c.args.searcher.now in
     let p = err_from_is_err_and c.from_residual.result c.from_residual.ensures.1 in
     rw p.1 (search_failed (sought_of s) (map (λ (r : Bor (List ℕ)). r.now) c.args.rules.now) c.args.options.now (g.I.Inputs.given c.args.files.now) _ _ c.task.ensures c.named-names.ensures _ _ _ _ _ _ c.in_err-outcome.ensures)
 
-pub returns-in_err-flush : goal.returns-in_err-flush
-returns-in_err-flush g c =
+pub returns-in_err-flush-clause-searched : goal.returns-in_err-flush-clause-searched
+returns-in_err-flush-clause-searched g c =
     let s = c.args.searcher.now in
     let p = err_from_is_err_and c.from_residual-in_err-flush.result c.from_residual-in_err-flush.ensures.1 in
     rw p.1 (search_unflushed (sought_of s) (map (λ (r : Bor (List ℕ)). r.now) c.args.rules.now) c.args.options.now (g.I.Inputs.given c.args.files.now) _ _ c.task.ensures c.named-names.ensures _ _ _ _ _ _ c.in_ok-outcome.outcome _ c.in_ok-outcome.ensures c.in_err-flush.ensures.taken c.in_err-flush.ensures.failures)
 
-pub returns : goal.returns
-returns g c =
+pub returns-clause-searched : goal.returns-clause-searched
+returns-clause-searched g c =
     let s = c.args.searcher.now in
     search_done (sought_of s) (map (λ (r : Bor (List ℕ)). r.now) c.args.rules.now) c.args.options.now (g.I.Inputs.given c.args.files.now) _ _ c.task.ensures c.named-names.ensures _ _ _ _ _ _ c.in_ok-outcome.outcome c.has.result _ c.in_ok-outcome.ensures c.in_ok-flush.ensures.taken c.in_ok-flush.ensures.failures c.has.ensures c.status.ensures

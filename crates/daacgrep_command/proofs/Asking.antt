@@ -5,7 +5,7 @@ use Rattle.std.proofs.lemmas.Grind.{flat_map-append}
 use Rattle.std.proofs.lemmas.List.{map-append, take_more}
 use Rattle.std.proofs.lemmas.List.Elements.{All-append, All-cons, All-nil}
 use Rattle.std.proofs.lemmas.List.Folds.{list_any-append}
-use Rattle.std.specs.Prelude.{◌^◌, IfOk, OnErr, OnOk}
+use Rattle.std.specs.Prelude.{◌^◌, IfErr, IfOk, OnErr, OnOk}
 use Rattle.std.specs.Int.{w32}
 use Rattle.std.specs.Borrow.{Bor}
 use Rattle.std.specs.Io.KnownBytes.{Appends, Keeps}
@@ -26,7 +26,10 @@ use Rattle.daacgrep_command.specs.declared.flag.Flag.TheVariants.{Help, IgnoreCa
 use Rattle.daacgrep_command.specs.Flags.{asks}
 use Rattle.daacgrep_command.specs.Lines.{TextLine, lines_from, lines_of}
 use Rattle.daacgrep_command.specs.Options.{Asked, CanBeMet, last_of, options_of, requests}
-use Rattle.daacgrep_command.specs.Asked.{AreFilesOf, AreSearched, AreSought, Ends, EndsBy, GivenFile, GivesPatterns, HasRead, IsAnswer, IsAutomatonAsked, IsCutOff, IsOfItself, IsSave, IsSearch, IsSearched, IsUsage, IsWork, both, closed_file, dictionary_asked, files_text, is_unread, kind_asked, names_asked, names_patterns, outcome_of, rules_asked, selects_of, shown, sought_asked, status_of, status_of_outcome, task_of, tells_of_itself, text_of_file, version_text}
+use Rattle.daacgrep_command.specs.Asked.{AreFilesOf, AreSearched, AreSought, GivenFile, GivesPatterns, HasRead, IsAnswer, IsAutomatonAsked, IsOfItself, IsUsage, IsSave, IsSearch, IsSearched, IsWork, both, closed_file, dictionary_asked, files_text, is_unread, kind_asked, names_asked, names_patterns, outcome_of, rules_asked, selects_of, shown, sought_asked, status_of_outcome, task_of, tells_of_itself, text_of_file, version_text}
+use Rattle.daacgrep_command.specs.Causes.{IsCause, IsUnsaved}
+use Rattle.daacgrep_command.specs.Ends.{Ends, EndsBy, IsCutOff, IsFailure, status_of}
+use Rattle.daacgrep_command.specs.declared.error.CommandError.{CommandError}
 use Rattle.daacgrep_command.specs.Printed.{file_text, has_selected}
 use Rattle.daacgrep_command.specs.Reading.{IsFileSearched}
 use Rattle.daacgrep_command.specs.Streams.{Has, IsOpened, TellsOf}
@@ -157,21 +160,18 @@ either : {X : Type 0} (b : Bool) → b ≡ true → b ≡ false → X
 either true t f = cc
 either false t f = cc
 
--- the text is the usage where that is asked for, and else the version
+-- the usage is of itself where it is asked for, and else the version
 pub its_usage : (asked : Asked) (text : List ℕ) (a : Bool) → a ≡ asks Help asked.flags → a ≡ true → IsUsage text → IsOfItself asked text
 its_usage asked text a e t is = record { usage = λ _. is; version = λ no. either a t (e ∙ no) }
 
 pub its_version : (asked : Asked) (text : List ℕ) (a : Bool) → a ≡ asks Help asked.flags → a ≡ false → text ≡ version_text → IsOfItself asked text
 its_version asked text a e f is = record { usage = λ yes. either a (e ∙ yes) f; version = λ _. is }
 
-module _ {E : Type 0} (asked : Asked) (given : Files) (a b : Option (List ℕ)) (f g : ℕ) (c : Option (List SavedFile)) where
+module _ (asked : Asked) (given : Files) (a b : Option (List ℕ)) (f g : ℕ) (c : Option (List SavedFile)) where
   -- the usage or the version was told
-  pub ends_told : (r : Result ℕ E) (text : List ℕ) → tells_of_itself asked ≡ true → IsOfItself asked text
-      → IsWritten {T = ℕ} {E = E} a b f g r text → IfOk r (λ s. s ≡ 0) → Ends asked given a b f g c c r
-  ends_told (Ok s) text t its w e =
-      record { text = text; saved = []; is_answer = inl (t, its, refl, e); written = w.whole; stored = stores_none c; unfailed = w.unfailed }
-  ends_told (Err x) text t its w e =
-      inr (record { text = text; status = 0; is_answer = inl (t, its, refl, refl); written = w.beginning; kept = refl; failed = w.failed })
+  pub ends_told : (r : Result ℕ CommandError) (text : List ℕ) → tells_of_itself asked ≡ true → IsOfItself asked text → IsWritten a b f g r text → IfOk r (λ s. s ≡ 0) → Ends asked given a b f g c c r
+  ends_told (Ok s) text t its w e = record { text = text; saved = []; is_answer = inl (t, its, refl, e); written = w.whole; stored = stores_none c; unfailed = w.unfailed }
+  ends_told (Err x) text t its w e = inr (record { text = text; status = 0; is_answer = inl (t, its, refl, refl); written = w.beginning; kept = refl; failed = w.failed })
 
 module _ (asked : Asked) (given : Files) (text : List ℕ) (gives : GivesPatterns asked given text) (named : names_patterns asked ≡ true) (told : tells_of_itself asked ≡ false) where
   module _ (nothing : last_of asked.saves ≡ None) (K : Dictionary ℕ) (sought : AreSought asked.flags given (rules_asked asked gives.files) (last_of asked.loads) K) where
@@ -197,7 +197,7 @@ module _ (asked : Asked) (given : Files) (text : List ℕ) (gives : GivesPattern
         } in
         inr (told, subst (λ l. IsWork asked given l (Text files) [] (Status files)) (sym nothing) (work, refl))
 
-    ends_found : {E : Type 0} (a b : Option (List ℕ)) (f g : ℕ) (c : Option (List SavedFile)) (r : Result ℕ E) → IsSearched (sought_asked asked.flags K) (rules_asked asked gives.files) asked given {E = E} a b f g r → Ends asked given a b f g c c r
+    ends_found : (a b : Option (List ℕ)) (f g : ℕ) (c : Option (List SavedFile)) (r : Result ℕ CommandError) → IsSearched (sought_asked asked.flags K) (rules_asked asked gives.files) asked given a b f g r → Ends asked given a b f g c c r
     ends_found a b f g c (Ok n) h = record {
       text = Text h.files;
       saved = [];
@@ -217,20 +217,20 @@ module _ (asked : Asked) (given : Files) (text : List ℕ) (gives : GivesPattern
 
   module _ (rules : List (List ℕ)) (are_rules : rules ≡ rules_asked asked gives.files) (automaton : Automaton ℕ) (is_asked : IsAutomatonAsked asked.flags given rules (last_of asked.loads) automaton) where
     -- the files were searched
-    pub ends_searched : {E : Type 0} (a b : Option (List ℕ)) (f g : ℕ) (c : Option (List SavedFile)) (r : Result ℕ E) → last_of asked.saves ≡ None → IsSearched (sought_of automaton) rules asked given {E = E} a b f g r → Ends asked given a b f g c c r
-    ends_searched {E} a b f g c r nothing h =
+    pub ends_searched : (a b : Option (List ℕ)) (f g : ℕ) (c : Option (List SavedFile)) (r : Result ℕ CommandError) → last_of asked.saves ≡ None → IsSearched (sought_of automaton) rules asked given a b f g r → Ends asked given a b f g c c r
+    ends_searched a b f g c r nothing h =
         let read = rules_asked asked gives.files in
         let s = sought_by asked.flags given read (last_of asked.loads) automaton (subst (λ l. IsAutomatonAsked asked.flags given l (last_of asked.loads) automaton) are_rules is_asked) in
-        let here = subst (λ l. IsSearched (sought_of automaton) l asked given {E = E} a b f g r) are_rules h in
-        ends_found nothing s.patterns s.are_sought a b f g c r (subst (λ t. IsSearched t read asked given {E = E} a b f g r) s.is here)
+        let here = subst (λ l. IsSearched (sought_of automaton) l asked given a b f g r) are_rules h in
+        ends_found nothing s.patterns s.are_sought a b f g c r (subst (λ t. IsSearched t read asked given a b f g r) s.is here)
 
 -- the automaton was saved
-pub ends_saved : {E : Type 0} (asked : Asked) (given : Files) (a : Option (List ℕ)) (f : ℕ) (c d : Option (List SavedFile)) (text : List ℕ) (gives : GivesPatterns asked given text) (rules : List (List ℕ)) (automaton : Automaton ℕ) (name : List ℕ) (r : Result ℕ E)
-    → names_patterns asked ≡ true → tells_of_itself asked ≡ false → rules ≡ rules_asked asked gives.files → IsAutomatonAsked asked.flags given rules (last_of asked.loads) automaton → last_of asked.saves ≡ Some name
-    → IfOk r (λ s. s ≡ 0) → OnOk r (IsAutomaton (λ v. v < 2 ^ 32) automaton) → OnOk r (Stores c d (record { name = name; bytes = written_form (number_form w32) automaton } ∷ [])) → OnErr r (d ≡ c) → Ends asked given a a f f c d r
-ends_saved asked given a f c d text gives rules automaton name (Ok n) named told are_rules is_asked is zero_is is_one stored kept =
+pub ends_saved : (asked : Asked) (given : Files) (a : Option (List ℕ)) (f : ℕ) (c d : Option (List SavedFile)) (text : List ℕ) (gives : GivesPatterns asked given text) (rules : List (List ℕ)) (automaton : Automaton ℕ) (name : Bor (List ℕ)) (r : Result ℕ CommandError)
+    → names_patterns asked ≡ true → tells_of_itself asked ≡ false → rules ≡ rules_asked asked gives.files → IsAutomatonAsked asked.flags given rules (last_of asked.loads) automaton → last_of asked.saves ≡ Some name.now
+    → IfOk r (λ s. s ≡ 0) → OnOk r (IsAutomaton (λ v. v < 2 ^ 32) automaton) → OnOk r (Stores c d (record { name = name.now; bytes = written_form (number_form w32) automaton } ∷ [])) → OnErr r (d ≡ c) → IfErr r (IsUnsaved name) → Ends asked given a a f f c d r
+ends_saved asked given a f c d text gives rules automaton name (Ok n) named told are_rules is_asked is zero_is is_one stored kept cause =
     let bytes = written_form (number_form w32) automaton in
-    let file : SavedFile = record { name = name; bytes = bytes } in
+    let file : SavedFile = record { name = name.now; bytes = bytes } in
     let save : IsSave asked given bytes = record {
       pattern_files = gives.files;
       are_pattern_files = gives.are_files;
@@ -249,7 +249,7 @@ ends_saved asked given a f c d text gives rules automaton name (Ok n) named told
       stored = stored;
       unfailed = refl;
     }
-ends_saved asked given a f c d text gives rules automaton name (Err e) named told are_rules is_asked is zero_is is_one stored kept = inl (Keeps-refl a, refl, kept)
+ends_saved asked given a f c d text gives rules automaton name (Err e) named told are_rules is_asked is zero_is is_one stored kept cause = inl (Keeps-refl a, refl, kept, inr (inr (name, is, cause)))
 
 module _ {E : Type 0} (s : Sought) (rules : List (List ℕ)) (asked : Asked) (given : Files) (task : Task) (names : List (List ℕ)) (is_task : task ≡ task_of asked) (are_names : names ≡ names_asked asked.files) (a b : Option (List ℕ)) (f g : ℕ) where
   -- a search as it was asked for
@@ -279,11 +279,11 @@ module _ {E : Type 0} (s : Sought) (rules : List (List ℕ)) (asked : Asked) (gi
       }
 
 -- how an attempt ends tells what its status says
-pub ends_by : {E : Type 0} (words : List (List ℕ)) (asked : Asked) (given : Files) (a b : Option (List ℕ)) (f g : ℕ) (c d : Option (List SavedFile)) (r : Result ℕ E) → CanBeMet (requests Any words) → asked ≡ options_of (requests Any words)
+pub ends_by : (words : List (List ℕ)) (asked : Asked) (given : Files) (a b : Option (List ℕ)) (f g : ℕ) (c d : Option (List SavedFile)) (r : Result ℕ CommandError) → CanBeMet (requests Any words) → asked ≡ options_of (requests Any words)
     → Ends asked given a b f g c d r → EndsBy words given a b f g c d (status_of r)
-ends_by {E} words asked given a b f g c d (Ok n) met is h = inl (met, subst (λ o. Ends o given a b f g c d {E = E} (Ok n)) is h)
-ends_by {E} words asked given a b f g c d (Err x) met is (inl kept) = inr (refl, inl kept)
-ends_by {E} words asked given a b f g c d (Err x) met is (inr cut) = inr (refl, inr (met, subst (λ o. IsCutOff o given a b f g c d) is cut))
+ends_by words asked given a b f g c d (Ok n) met is h = inl (met, subst (λ o. Ends o given a b f g c d (Ok n)) is h)
+ends_by words asked given a b f g c d (Err x) met is (inl (kept, same, saved, cause)) = inr (refl, inl (kept, same, saved, (x, inr (met, subst (λ o. IsCause o given x) is cause))))
+ends_by words asked given a b f g c d (Err x) met is (inr cut) = inr (refl, inr (met, subst (λ o. IsCutOff o given a b f g c d) is cut))
 
 module _ (texts : List (Bor (List ℕ))) (i : ℕ) (d : Bor (List ℕ)) (h : i < length texts) where
   -- one name more

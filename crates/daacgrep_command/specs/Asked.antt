@@ -2,7 +2,6 @@
 use Rattle.std.specs.Prelude.{◌≡◌, ◌⊎◌, ◌+◌, ◌-◌, ◌<◌, ◌^◌, ◌==◌, ◌&&◌, ◌||◌, Bool, true, false, not, nat_lt, ℕ, List, [], ◌∷◌, ◌++◌, Option, Some, None, Result, Ok, Err, All, codes, flat_map, is_none, is_some, length, map, slice_index, unwrap_or, if◌then◌else◌, IfOk}
 use Rattle.std.specs.Int.{w32}
 use Rattle.std.specs.Option.{option_map}
-use Rattle.std.specs.Io.KnownBytes.{Appends, Keeps}
 use Rattle.std.specs.List.{list_any}
 use Rattle.daachorse_model.specs.declared.MatchKind.{MatchKind}
 use Rattle.daachorse_model.specs.declared.MatchKind.TheVariants.{Standard, LeftmostLongest, LeftmostFirst}
@@ -14,22 +13,20 @@ use Rattle.daachorse_bytewise.specs.Automata.{Automaton, dictionary_of, kind_of}
 use Rattle.daachorse_bytewise.specs.Building.{IsBuiltOf}
 use Rattle.daachorse_bytewise.specs.Forms.{number_form, take_number}
 use Rattle.daachorse_bytewise.specs.ReadForms.{GivesAutomaton}
-use Rattle.daachorse_bytewise.specs.Replaced.{AppendsBeginning}
 use Rattle.daachorse_bytewise.specs.WrittenForms.{IsAutomaton, written_form}
 use Rattle.daacfind_command.specs.Commands.{Tells}
 use Rattle.daacfind_command.specs.Runs.{IsWritten, value_gives}
 use Rattle.daacgrep_command.specs.declared.flag.Flag.{Flag}
 use Rattle.daacgrep_command.specs.declared.flag.Flag.TheVariants.{WithName, NoName, OnlyMatches, Places, Numbers, Count as Counts, FileNames, Quiet, IgnoreCase, Invert, NullData, First, Overlapping, Values, Help, Version}
 use Rattle.daacgrep_command.specs.declared.files.Outcome.{Outcome}
-use Rattle.daacgrep_command.specs.declared.options.Role.TheVariants.{Any}
 use Rattle.daacgrep_command.specs.declared.search.Report.{Report}
 use Rattle.daacgrep_command.specs.declared.search.Report.TheVariants.{Lines, Matches, Count, Name, Nothing}
 use Rattle.daacgrep_command.specs.declared.search.Task.{Task}
 use Rattle.daacgrep_command.specs.Flags.{asks}
 use Rattle.daacgrep_command.specs.Lines.{lines_of}
-use Rattle.daacgrep_command.specs.Options.{Asked, CanBeMet, are_any, last_of, options_of, requests}
+use Rattle.daacgrep_command.specs.Options.{Asked, are_any, last_of}
 use Rattle.daacgrep_command.specs.Rules.{pattern_of}
-use Rattle.daacgrep_command.specs.Saved.{SavedFile, Stores}
+use Rattle.daacgrep_command.specs.Saved.{SavedFile}
 use Rattle.daacgrep_command.specs.Sought.{Sought}
 use Rattle.daacgrep_command.specs.Streams.{TellsOf}
 use Rattle.daacgrep_command.specs.Printed.{file_text, has_selected}
@@ -249,43 +246,4 @@ pub record IsOfItself (asked : Asked) (text : List ℕ) : Type 0 where
 
 -- this text and these files are asked for, and this status at the end
 abbrev pub IsAnswer : Asked → Option (List ℕ → Option (List ℕ)) → List ℕ → List SavedFile → ℕ → Type 0
-IsAnswer asked given text saved status =
-    ((tells_of_itself asked ≡ true) × IsOfItself asked text × (saved ≡ []) × (status ≡ 0))
-    ⊎ ((tells_of_itself asked ≡ false) × IsWork asked given (last_of asked.saves) text saved status)
-
-module _ (asked : Asked) (given : Option (List ℕ → Option (List ℕ))) (old new : Option (List ℕ)) (failures_old failures_new : ℕ) (saved_old saved_new : Option (List SavedFile)) where
-  -- all that is asked for was written
-  pub record IsDone (status : ℕ) : Type 0 where
-    pub text : List ℕ
-    pub saved : List SavedFile
-    pub is_answer : IsAnswer asked given text saved status
-    pub written : Appends old new text
-    pub stored : Stores saved_old saved_new saved
-    pub unfailed : failures_new ≡ failures_old
-
-  -- writing failed, after a beginning of what is asked for
-  pub record IsCutOff : Type 0 where
-    pub text : List ℕ
-    pub status : ℕ
-    pub is_answer : IsAnswer asked given text [] status
-    pub written : AppendsBeginning old new text
-    pub kept : saved_new ≡ saved_old
-    pub failed : failures_new ≡ failures_old + 1
-
-  -- how an attempt ends: with a status, or it fails, and then mostly before anything was written
-  abbrev pub Ends : {E : Type 0} → Result ℕ E → Type 0
-  Ends (Ok status) = IsDone status
-  Ends (Err e) = (Keeps old new × (failures_new ≡ failures_old) × (saved_new ≡ saved_old)) ⊎ IsCutOff
-
--- the status of an attempt
-abbrev pub status_of : {E : Type 0} → Result ℕ E → ℕ
-status_of (Ok status) = status
-status_of (Err e) = 2
-
-module _ (words : List (List ℕ)) (given : Option (List ℕ → Option (List ℕ))) (old new : Option (List ℕ)) (failures_old failures_new : ℕ) (saved_old saved_new : Option (List SavedFile)) where
-  -- What a status says: the words can be met, and all that they ask for was written, with the status that it has; or the status is 2, and nothing was written, or a beginning of what words ask for that can be met.
-  abbrev pub EndsBy : ℕ → Type 0
-  EndsBy status =
-      (CanBeMet (requests Any words) × IsDone (options_of (requests Any words)) given old new failures_old failures_new saved_old saved_new status)
-      ⊎ ((status ≡ 2) × ((Keeps old new × (failures_new ≡ failures_old) × (saved_new ≡ saved_old))
-      ⊎ (CanBeMet (requests Any words) × IsCutOff (options_of (requests Any words)) given old new failures_old failures_new saved_old saved_new)))
+IsAnswer asked given text saved status = ((tells_of_itself asked ≡ true) × IsOfItself asked text × (saved ≡ []) × (status ≡ 0)) ⊎ ((tells_of_itself asked ≡ false) × IsWork asked given (last_of asked.saves) text saved status)

@@ -1,5 +1,7 @@
 pub mod Ahead
 pub mod Asked
+pub mod Causes
+pub mod Ends
 pub mod Fields
 pub mod Flags
 pub mod Lines

@@ -1,15 +1,19 @@
 //! The automaton that is asked for: built of patterns or read from a file, and written to one.
 
-ghost use Rattle.std.specs.Prelude.{◌≡◌, ◌∷◌, [], ◌<◌, ◌^◌, ◌↔◌, ℕ, IfOk, IsTrue, List, OnErr, OnOk, map};
+ghost use Rattle.std.specs.Prelude.{◌≡◌, ◌∷◌, [], ◌<◌, ◌^◌, ◌↔◌, ℕ, IfErr, IfOk, IsTrue, List, OnErr, OnOk, map};
 ghost use Rattle.std.specs.Int.{w32};
+ghost use Rattle.daachorse_model.specs.Folding.{all_as_read};
 ghost use Rattle.daachorse_bytewise.specs.Automata.{kind_of};
-ghost use Rattle.daachorse_bytewise.specs.Building.{IsBuiltOf};
+ghost use Rattle.daachorse_bytewise.specs.Building.{IsBuiltOf, IsBuildRefusal};
 ghost use Rattle.daachorse_bytewise.specs.Forms.{number_form, take_number};
+ghost use Rattle.daachorse_bytewise.specs.DaachorseError.{DaachorseError};
 ghost use Rattle.daachorse_bytewise.specs.ReadForms.{GivesAutomaton};
 ghost use Rattle.daachorse_bytewise.specs.WrittenForms.{IsAutomaton, written_form};
 ghost use Rattle.daacfind_command.specs.Runs.{value_gives};
+ghost use Rattle.daacgrep_command.specs.declared.error.CommandError.TheVariants.{Load};
 ghost use Rattle.daacgrep_command.specs.declared.flag.Flag.TheVariants.{IgnoreCase, Values};
 ghost use Rattle.daacgrep_command.specs.Asked.{IsAutomatonAsked, IsLoaded, IsSavedWith, kind_asked};
+ghost use Rattle.daacgrep_command.specs.Causes.{IsNoAutomaton, IsNoForm, IsNotLoaded, IsUnsaved};
 ghost use Rattle.daacgrep_command.specs.Flags.{asks};
 ghost use Rattle.daacgrep_command.specs.Options.{last_of};
 ghost use Rattle.daacgrep_command.specs.Rules.{pattern_of};
@@ -41,6 +45,7 @@ pub fn automaton<'a, I: Inputs>(
 ) -> Result<DoubleArrayAhoCorasick<u32, Global>, CommandError<'a>>
     ensures given { I.given files.new ≡ I.given files.old }
     ensures ok { IfOk result (IsAutomatonAsked options.now.flags (I.given files.old) (map (λ r. r.now) rules.now) (last_of options.now.loads)) }
+    ensures err { IfErr result (IsNoAutomaton options.now (I.given files.old) (map (λ r. r.now) rules.now)) }
 {
     match options.load_file() {
         Some(name) => load(alloc, options, name, files),
@@ -64,6 +69,7 @@ pub fn save<'a, O: Outputs>(
     ensures automaton { OnOk result (IsAutomaton (λ v. v < 2 ^ 32) automaton.now) }
     ensures stored { OnOk result (Stores (O.saved saved.old) (O.saved saved.new) (record { name = name.now; bytes = written_form (number_form w32) automaton.now } ∷ [])) }
     ensures kept { OnErr result (O.saved saved.new ≡ O.saved saved.old) }
+    ensures err { IfErr result (IsUnsaved name.entry) }
 {
     let bytes = automaton.serialize(alloc)?;
     match saved.write(name, &bytes) {
@@ -81,6 +87,7 @@ fn load<'a, I: Inputs>(
 ) -> Result<DoubleArrayAhoCorasick<u32, Global>, CommandError<'a>>
     ensures given { I.given files.new ≡ I.given files.old }
     ensures ok { IfOk result (IsLoaded options.now.flags (I.given files.old) name.now) }
+    ensures err { IfErr result (IsNotLoaded (I.given files.old) options.now.flags name.entry) }
 {
     let Some(bytes) = files.read(name) else {
         return Err(CommandError::Read(name));
@@ -99,7 +106,8 @@ fn read<'a>(
     name: &'a str,
     bytes: &[u8],
 ) -> Result<DoubleArrayAhoCorasick<u32, Global>, CommandError<'a>>
-    ensures { IfOk result (λ a. (rest : List ℕ) × GivesAutomaton (take_number w32) bytes.now a rest) }
+    ensures ok { IfOk result (λ a. (rest : List ℕ) × GivesAutomaton (take_number w32) bytes.now a rest) }
+    ensures err { IfErr result (λ e. (cause : DaachorseError) × (e ≡ Load name.entry cause) × IsNoForm bytes.now cause) }
 {
     match DoubleArrayAhoCorasick::<u32, Global>::deserialize(alloc, bytes) {
         Ok((automaton, _rest)) => Ok(automaton),
@@ -124,7 +132,8 @@ fn build(
     options: &Options<'_, Global>,
     rules: &[&[u8]],
 ) -> Result<DoubleArrayAhoCorasick<u32, Global>, DaachorseError>
-    ensures { IfOk result (IsBuiltOf value_gives (kind_asked options.now.flags) (asks IgnoreCase options.now.flags) (map (pattern_of (asks Values options.now.flags)) (map (λ r. r.now) rules.now))) }
+    ensures ok { IfOk result (IsBuiltOf value_gives (kind_asked options.now.flags) (asks IgnoreCase options.now.flags) (map (pattern_of (asks Values options.now.flags)) (map (λ r. r.now) rules.now))) }
+    ensures err { IfErr result (IsBuildRefusal value_gives (kind_asked options.now.flags) (all_as_read (asks IgnoreCase options.now.flags) (map (pattern_of (asks Values options.now.flags)) (map (λ r. r.now) rules.now)))) }
 {
     let patterns = patterns(alloc, options.has(Flag::Values), rules)?;
     let folds = options.has(Flag::IgnoreCase);
@@ -137,7 +146,8 @@ fn build_of(
     folds: bool,
     patterns: &[&[u8]],
 ) -> Result<DoubleArrayAhoCorasick<u32, Global>, DaachorseError>
-    ensures { IfOk result (IsBuiltOf value_gives kind folds (map (λ p. p.now) patterns.now)) }
+    ensures ok { IfOk result (IsBuiltOf value_gives kind folds (map (λ p. p.now) patterns.now)) }
+    ensures err { IfErr result (IsBuildRefusal value_gives kind (all_as_read folds (map (λ p. p.now) patterns.now))) }
 {
     let builder = DoubleArrayAhoCorasickBuilder::new()
         .match_kind(kind)

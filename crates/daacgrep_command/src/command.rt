@@ -2,7 +2,8 @@
 
 ghost use Rattle.std.specs.Prelude.{◌≡◌, ◌<◌, IfOk, OnOk, map};
 ghost use Rattle.daacfind_command.specs.Runs.{IsWritten};
-ghost use Rattle.daacgrep_command.specs.Asked.{Ends, EndsBy, IsSearched, IsUsage, end_asked, names_asked, report_asked, status_of, task_of, version_text};
+ghost use Rattle.daacgrep_command.specs.Asked.{IsSearched, IsUsage, end_asked, names_asked, report_asked, task_of, version_text};
+ghost use Rattle.daacgrep_command.specs.Ends.{Ends, EndsBy, status_of};
 ghost use Rattle.daacgrep_command.specs.Sought.{sought_of};
 
 use crate::automaton::{automaton, save};

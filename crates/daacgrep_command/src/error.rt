@@ -1,5 +1,7 @@
 //! Why a command fails.
 
+ghost use Rattle.std.specs.Prelude.{◌≡◌};
+
 use crate::options::OptionError;
 use daacfind_command::sink::SinkError;
 use daachorse::errors::DaachorseError;
@@ -11,7 +13,7 @@ use thiserror::Error;
 pub enum CommandError<'a> {
     /// The words ask for nothing that can be done.
     #[error(transparent)]
-    Options(#[from] OptionError<'a>),
+    Options(OptionError<'a>),
     /// There is no pattern.
     #[error("daacgrep: no pattern: -e PATTERN, -f FILE or --load FILE is wanted; see daacgrep --help")]
     NoPattern,
@@ -20,7 +22,7 @@ pub enum CommandError<'a> {
     Read(&'a str),
     /// The build refused the patterns.
     #[error("daacgrep: {0}")]
-    Build(#[from] DaachorseError),
+    Build(DaachorseError),
     /// A file begins with no automaton, or an allocation failed.
     #[error("daacgrep: cannot load {0}: {1}")]
     Load(&'a str, DaachorseError),
@@ -32,13 +34,48 @@ pub enum CommandError<'a> {
     Save(&'a str),
     /// An allocation failed.
     #[error("daacgrep: {0}")]
-    OutOfMemory(#[from] AllocError),
+    OutOfMemory(AllocError),
     /// The sink failed.
     #[error("daacgrep: cannot write")]
     Write,
 }
 
+impl<'a> From<OptionError<'a>> for CommandError<'a> {
+    ghost use Rattle.daacgrep_command.specs.declared.error.CommandError.TheVariants.{Options};
+
+    ghost from_gives = { λ cause e. e ≡ Options cause };
+
+    fn from(cause: OptionError<'a>) -> Self {
+        CommandError::Options(cause)
+    }
+}
+
+impl From<DaachorseError> for CommandError<'_> {
+    ghost use Rattle.daacgrep_command.specs.declared.error.CommandError.TheVariants.{Build};
+
+    ghost from_gives = { λ cause e. e ≡ Build cause };
+
+    fn from(cause: DaachorseError) -> Self {
+        CommandError::Build(cause)
+    }
+}
+
+impl From<AllocError> for CommandError<'_> {
+    ghost use Rattle.std.specs.Prelude.{alloc_error};
+    ghost use Rattle.daacgrep_command.specs.declared.error.CommandError.TheVariants.{OutOfMemory};
+
+    ghost from_gives = { λ _ e. e ≡ OutOfMemory alloc_error };
+
+    fn from(error: AllocError) -> Self {
+        CommandError::OutOfMemory(error)
+    }
+}
+
 impl From<SinkError> for CommandError<'_> {
+    ghost use Rattle.daacgrep_command.specs.declared.error.CommandError.TheVariants.{Write};
+
+    ghost from_gives = { λ _ e. e ≡ Write };
+
     fn from(_failure: SinkError) -> Self {
         CommandError::Write
     }

@@ -1,8 +1,9 @@
 //! The patterns that are asked for.
 
-ghost use Rattle.std.specs.Prelude.{◌≡◌, ◌++◌, ◌∷◌, [], IfOk, OnOk, flat_map, map, true};
+ghost use Rattle.std.specs.Prelude.{◌≡◌, ◌++◌, ◌∷◌, [], IfErr, IfOk, OnOk, flat_map, map, true};
 ghost use Rattle.daachorse_model.specs.Program.{pattern_lines};
 ghost use Rattle.daacgrep_command.specs.Asked.{GivesPatterns, HasRead, closed, names_patterns};
+ghost use Rattle.daacgrep_command.specs.Causes.{IsNoText, IsNotRead};
 
 use crate::error::CommandError;
 use crate::lines::Lines;
@@ -29,6 +30,7 @@ pub fn text<'a, I: Inputs, E: Sink>(
     ensures given { I.given files.new ≡ I.given files.old }
     ensures ok { IfOk result (λ text. GivesPatterns options.now (I.given files.old) text.items) }
     ensures named { OnOk result (names_patterns options.now ≡ true) }
+    ensures err { IfErr result (IsNoText options.now (I.given files.old)) }
 {
     if !names_patterns(options) {
         return Err(CommandError::NoPattern);
@@ -55,6 +57,7 @@ fn pattern_text<'a, I: Inputs>(
 ) -> Result<Vec<u8>, CommandError<'a>>
     ensures given { I.given files.new ≡ I.given files.old }
     ensures ok { IfOk result (λ text. GivesPatterns options.now (I.given files.old) text.items) }
+    ensures err { IfErr result (IsNotRead (I.given files.old) options.now.pattern_files) }
 {
     let mut text = Vec::new(alloc);
     add_patterns(options.patterns(), &mut text)?;
@@ -88,6 +91,7 @@ fn add_files<'a, I: Inputs>(
 ) -> Result<(), CommandError<'a>>
     ensures given { I.given files.new ≡ I.given files.old }
     ensures ok { OnOk result (HasRead (I.given files.old) (map (λ n. n.now) names.now) text.old.items text.new.items) }
+    ensures err { IfErr result (IsNotRead (I.given files.old) (map (λ n. n.now) names.now)) }
 {
     for name in names {
         let Some(bytes) = files.read(name) else {

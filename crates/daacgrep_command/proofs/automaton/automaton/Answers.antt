@@ -11,4 +11,4 @@ returns-in-Some-clause-ok g c =
 
 pub returns-in_ok-build-in-None-clause-ok : goal.returns-in_ok-build-in-None-clause-ok
 returns-in_ok-build-in-None-clause-ok g c =
-    subst (λ l. IsAutomatonAsked c.args.options.now.flags (g.I.Inputs.given c.args.files.now) (map (λ (r : Bor (List ℕ)). r.now) c.args.rules.now) l c.in_ok-build-in-None.field-0) c.in-None.ensures c.in_ok-build-in-None.ensures
+    subst (λ l. IsAutomatonAsked c.args.options.now.flags (g.I.Inputs.given c.args.files.now) (map (λ (r : Bor (List ℕ)). r.now) c.args.rules.now) l c.in_ok-build-in-None.field-0) c.in-None.ensures c.in_ok-build-in-None.ensures.ok

@@ -3,5 +3,5 @@ use Rattle.daacgrep_command.proofs.automaton.load.Goals as goal
 
 pub returns-then-is_saved_with-clause-ok : goal.returns-then-is_saved_with-clause-ok
 returns-then-is_saved_with-clause-ok g c =
-    let read = rw c.deref.ensures.value at c.in_ok-automaton.ensures in
+    let read = rw c.deref.ensures.value at c.in_ok-automaton.ensures.ok in
     record { bytes = c.in-Some.bytes.items; told = c.in-Some.ensures.told; rest = read.0; begins = read.1; fits = c.is_saved_with.ensures.0 c.if-is_saved_with.true }

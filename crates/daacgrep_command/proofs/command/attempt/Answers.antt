@@ -9,7 +9,7 @@ use Rattle.daacgrep_command.proofs.command.attempt.Goals as goal
 pub returns-in_err-options-clause-ends : goal.returns-in_err-options-clause-ends
 returns-in_err-options-clause-ends g c =
     let p = err_from_is_err_and c.from_residual.result c.from_residual.ensures.1 in
-    rw p.1 (inr (refl, inl (Keeps-refl _, refl, refl)))
+    rw p.1 (inr (refl, inl (Keeps-refl _, refl, refl, (p.0, inl (_, p.2, c.in_err-options.ensures.err)))))
 
 pub returns-clause-ends : goal.returns-clause-ends
 returns-clause-ends g c =

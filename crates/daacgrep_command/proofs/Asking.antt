@@ -28,7 +28,7 @@ use Rattle.daacgrep_command.specs.Lines.{TextLine, lines_from, lines_of}
 use Rattle.daacgrep_command.specs.Options.{Asked, CanBeMet, last_of, options_of, requests}
 use Rattle.daacgrep_command.specs.Asked.{AreFilesOf, AreSearched, AreSought, GivenFile, GivesPatterns, HasRead, IsAnswer, IsAutomatonAsked, IsOfItself, IsUsage, IsSave, IsSearch, IsSearched, IsWork, both, closed_file, dictionary_asked, files_text, is_unread, kind_asked, names_asked, names_patterns, outcome_of, rules_asked, selects_of, shown, sought_asked, status_of_outcome, task_of, tells_of_itself, text_of_file, version_text}
 use Rattle.daacgrep_command.specs.Causes.{IsCause, IsUnsaved}
-use Rattle.daacgrep_command.specs.Ends.{Ends, EndsBy, IsCutOff, IsFailure, status_of}
+use Rattle.daacgrep_command.specs.Ends.{Ends, EndsBy, IsCutOff, status_of}
 use Rattle.daacgrep_command.specs.declared.error.CommandError.{CommandError}
 use Rattle.daacgrep_command.specs.Printed.{file_text, has_selected}
 use Rattle.daacgrep_command.specs.Reading.{IsFileSearched}

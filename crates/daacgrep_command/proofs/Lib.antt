@@ -8,4 +8,5 @@ pub mod Parts
 pub mod Passing
 pub mod Requests
 pub mod Selected
+pub mod Troubles
 pub mod Writing

@@ -1,5 +1,5 @@
 -- What the words of a command line and the files that they name come to: a text, and a status.
-use Rattle.std.specs.Prelude.{◌≡◌, ◌⊎◌, ◌+◌, ◌-◌, ◌<◌, ◌^◌, ◌==◌, ◌&&◌, ◌||◌, Bool, true, false, not, nat_lt, ℕ, List, [], ◌∷◌, ◌++◌, Option, Some, None, Result, Ok, Err, All, codes, flat_map, is_none, is_some, length, map, slice_index, unwrap_or, if◌then◌else◌, IfOk}
+use Rattle.std.specs.Prelude.{◌≡◌, ◌⊎◌, ◌+◌, ◌-◌, ◌<◌, ◌^◌, ◌==◌, ◌&&◌, ◌||◌, Bool, true, false, not, nat_lt, ℕ, List, [], ◌∷◌, ◌++◌, Option, Some, None, Result, All, codes, flat_map, is_none, is_some, length, map, slice_index, unwrap_or, if◌then◌else◌, IfOk}
 use Rattle.std.specs.Int.{w32}
 use Rattle.std.specs.Option.{option_map}
 use Rattle.std.specs.List.{list_any}
@@ -246,4 +246,6 @@ pub record IsOfItself (asked : Asked) (text : List ℕ) : Type 0 where
 
 -- this text and these files are asked for, and this status at the end
 abbrev pub IsAnswer : Asked → Option (List ℕ → Option (List ℕ)) → List ℕ → List SavedFile → ℕ → Type 0
-IsAnswer asked given text saved status = ((tells_of_itself asked ≡ true) × IsOfItself asked text × (saved ≡ []) × (status ≡ 0)) ⊎ ((tells_of_itself asked ≡ false) × IsWork asked given (last_of asked.saves) text saved status)
+IsAnswer asked given text saved status =
+    ((tells_of_itself asked ≡ true) × IsOfItself asked text × (saved ≡ []) × (status ≡ 0))
+    ⊎ ((tells_of_itself asked ≡ false) × IsWork asked given (last_of asked.saves) text saved status)

@@ -1,5 +1,5 @@
 -- What is known of a file that is read piece by piece.
-use Rattle.std.specs.Prelude.{◌≡◌, ⊤, ℕ, Bool, true, false, List, ◌++◌, Option, Some, None}
+use Rattle.std.specs.Prelude.{◌≡◌, ◌≤◌, ◌+◌, ⊤, ℕ, Bool, true, false, nat_lt, List, ◌++◌, Option, Some, None, Result, Ok, Err}
 use Rattle.std.specs.Option.{option_map}
 use Rattle.daacfind_command.specs.Commands.{Tells}
 
@@ -18,3 +18,17 @@ Has false (Some all) bytes = all ≡ bytes
 abbrev pub TellsOf : Option (List ℕ → Option (List ℕ)) → List ℕ → Option (List ℕ) → Bool → Type 0
 TellsOf given name bytes false = Tells given name bytes
 TellsOf given name bytes true = (rest : List ℕ) × Tells given name (option_map (λ b. b ++ rest) bytes)
+
+-- a failed read is one failure more
+abbrev pub failures_after : {T E : Type 0} → Result T E → ℕ → ℕ
+failures_after (Err e) n = n + 1
+failures_after (Ok x) n = n
+
+-- a file that cannot be opened is one failure more
+abbrev pub failures_after_open : Bool → ℕ → ℕ
+failures_after_open true n = n
+failures_after_open false n = n + 1
+
+-- there was trouble just where a failure was counted
+abbrev pub IsTrouble : Bool → ℕ → ℕ → Type 0
+IsTrouble trouble before after = (before ≤ after) × (trouble ≡ nat_lt before after)

@@ -1,6 +1,6 @@
 //! The command: from the words of a command line to a status.
 
-ghost use Rattle.std.specs.Prelude.{◌≡◌, ◌<◌, IfOk, OnOk, map};
+ghost use Rattle.std.specs.Prelude.{◌≡◌, ◌+◌, ◌<◌, IfOk, OnOk, map};
 ghost use Rattle.daacfind_command.specs.Runs.{IsWritten};
 ghost use Rattle.daacgrep_command.specs.Asked.{IsSearched, IsUsage, end_asked, names_asked, report_asked, task_of, version_text};
 ghost use Rattle.daacgrep_command.specs.Ends.{Ends, EndsBy, status_of};
@@ -152,6 +152,7 @@ fn search<'a, I: Streams, S: Sink, E: Sink>(
     out: &mut S,
     err: &mut E,
 ) -> Result<u8, CommandError<'a>>
+    ensures trouble { IfOk result (λ status. status ≡ 2 → I.failures files.old + window.old.failures < I.failures files.new + window.new.failures) }
     ensures flushed { OnOk result (S.unflushed out.new ≡ 0) }
     ensures searched { IsSearched (sought_of searcher.now) (map (λ r. r.now) rules.now) options.now (I.Inputs.given files.old) (S.taken out.old) (S.taken out.new) (S.failures out.old) (S.failures out.new) result }
 {

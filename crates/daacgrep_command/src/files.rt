@@ -1,8 +1,9 @@
 //! The search of files by their names.
 
-ghost use Rattle.std.specs.Prelude.{◌≡◌, ◌∷◌, ◌&&◌, ◌||◌, [], map, not};
+ghost use Rattle.std.specs.Prelude.{◌≡◌, ◌+◌, ◌∷◌, ◌&&◌, ◌||◌, [], IfOk, map, not};
 ghost use Rattle.daacgrep_command.specs.Asked.{AreSearched, both, shown, status_of_outcome};
 ghost use Rattle.daacgrep_command.specs.Sought.{sought_of};
+ghost use Rattle.daacgrep_command.specs.Streams.{IsTrouble};
 
 use crate::reading::search_open;
 use crate::search::Task;
@@ -60,7 +61,8 @@ pub fn search_files<I: Streams, S: Sink, E: Sink, A: Allocator>(
     out: &mut S,
     err: &mut E,
 ) -> Result<Outcome, SinkError>
-    ensures { AreSearched (sought_of searcher.now) (map (λ r. r.now) rules.now) task (I.Inputs.given files.old) (map (λ n. n.now) names.now) (S.taken out.old) (S.taken out.new) (S.failures out.old) (S.failures out.new) result }
+    ensures trouble { IfOk result (λ o. IsTrouble o.trouble (I.failures files.old + window.old.failures) (I.failures files.new + window.new.failures)) }
+    ensures searched { AreSearched (sought_of searcher.now) (map (λ r. r.now) rules.now) task (I.Inputs.given files.old) (map (λ n. n.now) names.now) (S.taken out.old) (S.taken out.new) (S.failures out.old) (S.failures out.new) result }
 {
     let mut outcome = Outcome {
         selected: false,
@@ -84,6 +86,7 @@ fn search_named<I: Streams, S: Sink, E: Sink, A: Allocator>(
     err: &mut E,
 ) -> Result<Outcome, SinkError>
     ensures given { I.Inputs.given files.new ≡ I.Inputs.given files.old }
+    ensures trouble { IfOk result (λ o. IsTrouble o.trouble (I.failures files.old + window.old.failures) (I.failures files.new + window.new.failures)) }
     ensures searched { AreSearched (sought_of searcher.now) (map (λ r. r.now) rules.now) task (I.Inputs.given files.old) (name.now ∷ []) (S.taken out.old) (S.taken out.new) (S.failures out.old) (S.failures out.new) result }
 {
     if !files.open(name) {

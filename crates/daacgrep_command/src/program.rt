@@ -8,6 +8,7 @@ use crate::outputs::Outputs;
 use crate::streams::{ReadError, Streams};
 use daacfind_command::inputs::Inputs;
 use daacfind_command::sink::{SinkError, WriterSink};
+use daachorse::counter::Counter;
 use std::alloc::Global;
 use std::fs::File;
 use std::io::{self, BufWriter, ErrorKind, Read, Write};
@@ -21,6 +22,8 @@ pub struct SystemInputs<'a, R: Files + Input + AllocGlobal> {
     rt: &'a R,
     // What is read piece by piece.
     opened: Option<Opened<R::File, R::Reader>>,
+    // How often a file could not be opened, or not be read on, for contracts alone.
+    failures: Counter,
 }
 
 #[derive(Drop)]
@@ -55,24 +58,33 @@ impl<R: Files + Input + AllocGlobal> Streams for SystemInputs<'_, R> {
     // No contract can say what a file has.
     ghost left = { λ _. None };
 
+    ghost failures = { λ s. s.failures };
+
     fn open(&mut self, name: &str) -> bool {
         self.opened = if name == "-" {
             Some(Opened::Input(self.rt.reader()))
         } else {
             match File::open(self.rt, name) {
                 Ok(file) => Some(Opened::File(file)),
-                Err(_) => None,
+                Err(_) => {
+                    self.failures.increment();
+                    None
+                }
             }
         };
         self.opened.is_some()
     }
 
     fn read_next(&mut self, buffer: &mut [u8]) -> Result<usize, ReadError> {
-        match &mut self.opened {
+        let read = match &mut self.opened {
             Some(Opened::File(file)) => read_of(file, buffer),
             Some(Opened::Input(input)) => read_of(input, buffer),
             None => Err(ReadError),
+        };
+        if read.is_err() {
+            self.failures.increment();
         }
+        read
     }
 }
 
@@ -137,7 +149,11 @@ fn status(rt: &HostRuntime) -> io::Result<u8> {
     Ok(command(
         rt.alloc(),
         &words,
-        &mut SystemInputs { rt, opened: None },
+        &mut SystemInputs {
+            rt,
+            opened: None,
+            failures: Counter::new(),
+        },
         &mut SystemOutputs { rt },
         &mut WriterSink::new(out),
         &mut WriterSink::new(rt.stderr()),

@@ -6,6 +6,7 @@ ghost use Rattle.daacgrep_command.specs.Lines.{lines_from, pieces_of};
 ghost use Rattle.daacgrep_command.specs.Printed.{end_of, lines_text, selected_count};
 ghost use Rattle.daacgrep_command.specs.Reading.{IsFileSearched, IsWithin, asks_for_one};
 ghost use Rattle.daacgrep_command.specs.Sought.{sought_of};
+ghost use Rattle.daacgrep_command.specs.Streams.{IsTrouble};
 
 use crate::files::Outcome;
 use crate::line::Part;
@@ -38,6 +39,7 @@ pub fn search_open<I: Streams, S: Sink, A: Allocator>(
     out: &mut S,
 ) -> Result<Outcome, SinkError>
     ensures same { I.Inputs.given files.new ≡ I.Inputs.given files.old }
+    ensures trouble { IfOk result (λ o. IsTrouble o.trouble (I.failures files.old + window.old.failures) (I.failures files.new + window.new.failures)) }
     ensures searched { IsFileSearched (sought_of searcher.now) (map (λ r. r.now) rules.now) task name.now (I.left files.old) (S.taken out.old) (S.taken out.new) (S.failures out.old) (S.failures out.new) result }
 {
     window.begin(task.labels.end);
@@ -74,6 +76,7 @@ fn finish<S: Sink, A: Allocator>(
     out: &mut S,
 ) -> Result<Outcome, SinkError>
     requires few { IsWithin progress window.old.start }
+    ensures failures { window.new.failures ≡ window.old.failures }
     ensures written { IsWritten (S.taken out.old) (S.taken out.new) (S.failures out.old) (S.failures out.new) result
         (lines_text (sought_of searcher.now) (map (λ r. r.now) rules.now) task name.now (lines_from progress.lines window.old.start (pieces_of task.labels.end window.old.bytes))
         ++ end_of task.report task.labels name.now (progress.selected + selected_count (sought_of searcher.now) task.inverts (lines_from progress.lines window.old.start (pieces_of task.labels.end window.old.bytes)))) }
@@ -113,6 +116,7 @@ fn search_on<S: Sink, A: Allocator>(
     requires within { len ≤ length window.old.bytes }
     requires few { IsWithin progress window.old.start }
     ensures mark { window.new.mark ≡ window.old.mark }
+    ensures failures { window.new.failures ≡ window.old.failures }
     ensures start { OnOk result (window.new.start ≡ window.old.start + len) }
     ensures bytes { OnOk result (window.new.bytes ≡ drop len window.old.bytes) }
     ensures written { IsWritten (S.taken out.old) (S.taken out.new) (S.failures out.old) (S.failures out.new) result

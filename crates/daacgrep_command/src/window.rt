@@ -2,17 +2,20 @@
 
 ghost use Rattle.std.specs.Prelude.{◌≡◌, ◌⊎◌, ◌+◌, ◌-◌, ◌<◌, ◌≤◌, ◌==◌, ◌^◌, [], ℕ, IfOk, List, OnErr, count_by, drop, length, slice_index, take};
 ghost use Rattle.std.specs.Io.KnownBytes.{Consumes};
+ghost use Rattle.daacgrep_command.specs.Streams.{failures_after};
 ghost use Rattle.daacgrep_command.specs.Windows.{HasNone, IsReadOn};
 
 use crate::lines::behind_last;
 use crate::streams::{ReadError, Streams};
+use daachorse::counter::Counter;
 use std::alloc::{AllocError, Global};
 use std::marker::Model;
 
 // How many bytes are read at a time.
 const PIECE: usize = 65536;
 
-/// What is held of a file: bytes that were read and not yet passed over.
+/// What is held of a file: bytes that were read and not yet passed over. Its count of failures is for
+/// contracts alone, and takes no space.
 #[derive(Drop)]
 pub struct Window {
     piece: Vec<u8>,
@@ -21,6 +24,8 @@ pub struct Window {
     start: usize,
     // The byte that ends lines.
     mark: u8,
+    // How often there was no room for what was read.
+    failures: Counter,
 }
 
 impl Model for Window {
@@ -29,25 +34,29 @@ impl Model for Window {
 
     ghost Value = { Held };
 
-    ghost view = { λ s. record { start = s.start; bytes = s.held.items; mark = s.mark } };
+    ghost view = { λ s. record { start = s.start; bytes = s.held.items; mark = s.mark; failures = s.failures } };
 
     ghost invariant = { λ s. (0 < length s.piece.items) × (s.start + length s.held.items < 2 ^ 64) };
 }
 
 impl Window {
     /// A window that holds nothing.
-    pub fn new(alloc: Global) -> Result<Window, AllocError> {
+    pub fn new(alloc: Global) -> Result<Window, AllocError>
+        ensures { IfOk result (λ w. w.failures ≡ 0) }
+    {
         Ok(Window {
             piece: Vec::from_elem(alloc, 0u8, PIECE)?,
             held: Vec::new(alloc),
             start: 0,
             mark: b'\n',
+            failures: Counter::new(),
         })
     }
 
     /// Begins at the front of a file, where the mark ends lines.
     pub fn begin(&mut self, mark: u8)
         ensures mark { self.new.mark ≡ mark }
+        ensures failures { self.new.failures ≡ self.old.failures }
         ensures start { self.new.start ≡ 0 }
         ensures bytes { self.new.bytes ≡ [] }
     {
@@ -85,6 +94,7 @@ impl Window {
         ensures start { self.new.start ≡ self.old.start }
         ensures mark { self.new.mark ≡ self.old.mark }
         ensures within { self.new.start + length self.new.bytes < 2 ^ 64 }
+        ensures failures { I.failures files.new + self.new.failures ≡ failures_after result (I.failures files.old + self.old.failures) }
         ensures ok { IfOk result (λ n. IsReadOn (I.left files.old) (I.left files.new) self.old.bytes self.new.bytes n) }
         ensures kept { OnErr result (self.new.bytes ≡ self.old.bytes) }
         ensures lost { OnErr result ((lost : List ℕ) × Consumes (I.left files.old) (I.left files.new) lost) }
@@ -92,12 +102,24 @@ impl Window {
         let count = files.read_next(&mut self.piece)?;
         let len = self.held.len() + count;
         if self.start.checked_add(len).is_none() {
-            return Err(ReadError);
+            let is_too_far = usize::MAX - self.start < len;
+            prove!(is_too_far);
+            return Err(self.fail());
         }
         match self.held.extend_from_slice(&self.piece[..count]) {
             Ok(()) => Ok(count),
-            Err(AllocError) => Err(ReadError),
+            Err(AllocError) => Err(self.fail()),
         }
+    }
+
+    fn fail(&mut self) -> ReadError
+        ensures start { self.new.start ≡ self.old.start }
+        ensures bytes { self.new.bytes ≡ self.old.bytes }
+        ensures mark { self.new.mark ≡ self.old.mark }
+        ensures failures { self.new.failures ≡ self.old.failures + 1 }
+    {
+        self.failures.increment();
+        ReadError
     }
 
     /// Returns how many bytes the lines take that are complete, where the last `count` bytes are new.
@@ -119,6 +141,7 @@ impl Window {
     pub fn pass(&mut self, count: usize)
         requires { count ≤ length self.old.bytes }
         ensures mark { self.new.mark ≡ self.old.mark }
+        ensures failures { self.new.failures ≡ self.old.failures }
         ensures start { self.new.start ≡ self.old.start + count }
         ensures bytes { self.new.bytes ≡ drop count self.old.bytes }
     {

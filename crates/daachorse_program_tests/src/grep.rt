@@ -9,6 +9,7 @@ use daacfind_command::sink::{SinkError, WriterSink};
 use daacgrep_command::command::command;
 use daacgrep_command::outputs::Outputs;
 use daacgrep_command::streams::{ReadError, Streams};
+use daachorse::counter::Counter;
 use std::alloc::Global;
 
 /// A few files in memory, one of them the automaton.
@@ -19,12 +20,12 @@ struct Memory<'a> {
     // What is left of the file that is open, and whether an error stands behind it.
     opened: Vec<u8>,
     is_torn: bool,
+    // How often a file could not be opened, or not be read on.
+    failures: Counter,
 }
 
-impl Inputs for Memory<'_> {
-    ghost given = { λ _. None };
-
-    fn read(&mut self, name: &str) -> Option<Vec<u8>> {
+impl Memory<'_> {
+    fn bytes_of(&self, name: &str) -> Option<Vec<u8>> {
         match name {
             "rules" => Vec::from_slice(self.alloc, b"ab\tletters\nerror\tbad\tword\nfine\n").ok(),
             "words" => Vec::from_slice(self.alloc, b"ab\nerror\n").ok(),
@@ -40,11 +41,22 @@ impl Inputs for Memory<'_> {
     }
 }
 
+impl Inputs for Memory<'_> {
+    ghost given = { λ _. None };
+
+    fn read(&mut self, name: &str) -> Option<Vec<u8>> {
+        self.bytes_of(name)
+    }
+}
+
 impl Streams for Memory<'_> {
     ghost left = { λ _. None };
 
+    ghost failures = { λ s. s.failures };
+
     fn open(&mut self, name: &str) -> bool {
-        let Some(bytes) = self.read(name) else {
+        let Some(bytes) = self.bytes_of(name) else {
+            self.failures.increment();
             return false;
         };
         self.opened = bytes;
@@ -56,6 +68,7 @@ impl Streams for Memory<'_> {
     fn read_next(&mut self, buffer: &mut [u8]) -> Result<usize, ReadError> {
         let count = self.opened.len().min(buffer.len()).min(3);
         if count == 0 && self.is_torn {
+            self.failures.increment();
             return Err(ReadError);
         }
         buffer[..count].copy_from_slice(&self.opened[..count]);
@@ -521,6 +534,7 @@ fn ran(alloc: Global, automaton: &[u8], words: &[&str], room: usize) -> Left {
         automaton,
         opened: Vec::new(alloc),
         is_torn: false,
+        failures: Counter::new(),
     };
     let mut saved = Store {
         alloc,

@@ -13,7 +13,9 @@ returns-clause-err c =
     let texts = map (λ (p : Bor (List ℕ)). p.now) c.args.patterns.now in
     IfErr-weaker c.build.result _ (IsBuildRefusal value_gives c.args.kind (all_as_read c.args.folds texts))
     (λ e cause. elim cause [
-      | inl memory ↦ let Q : DaachorseError → Type 0 = λ x. IsBuildRefusal value_gives c.args.kind (all_as_read c.args.folds texts) x in subst Q (sym memory) tt
+      | inl memory ↦
+          let Q : DaachorseError → Type 0 = λ x. IsBuildRefusal value_gives c.args.kind (all_as_read c.args.folds texts) x in
+          subst Q (sym memory) tt
       | inr r ↦
           let copied = c.copied.ensures.runs r.2.0 r.2.0.seen (r.2.1 ∙ r.1) in
           let read = c.iter.ensures.runs copied.0 copied.0.seen in

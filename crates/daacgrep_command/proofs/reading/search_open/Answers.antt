@@ -10,6 +10,7 @@ use Rattle.daacgrep_command.specs.Reading.{asks_for_one}
 use Rattle.daacgrep_command.specs.Sought.{sought_of}
 use Rattle.daacgrep_command.proofs.Marks.{none_before}
 use Rattle.daacgrep_command.proofs.Parts.{IsSearchedTo, closed_to, cut_off, done, has_all, has_front, has_some, passed_on, read_more, searched_on, sent_on, settled}
+use Rattle.daacgrep_command.proofs.Troubles.{more_result, same_result}
 use Rattle.daacgrep_command.proofs.reading.search_open.Goals as goal
 
 pub returns-then-count-eq0-clause-searched : goal.returns-then-count-eq0-clause-searched
@@ -98,6 +99,7 @@ loop-window-preserved g c =
       same = c.in-Ok.ensures.same ∙ l.invariant.same;
       mark = k.mark ∙ marked;
       passed = rw (k.mark, k.bytes) c.complete_len-len.ensures.rest;
+      counted = ap (λ n. g.I.Streams.failures c.read_on.new.files + n) k.failures ∙ c.in-Ok.ensures.failures ∙ l.invariant.counted;
     }
 
 pub returns-clause-searched : goal.returns-clause-searched
@@ -108,3 +110,18 @@ returns-clause-searched g c =
     let both = both_true (nat_lt 0 l.progress.selected) (asks_for_one c.args.task.report) (sym c.is_settled.ensures ∙ c.loop-window-test.false) in
     settled s rules c.args.task c.args.name.now l.invariant.before _ l.progress l.invariant.searched (g.I.Streams.left c.args.files.now) (g.I.Streams.left l.files) _ _ _ _ _ _ l.window.bytes c.finish-2.result both.1 (grind (arith, nat_tests, both.0)) l.invariant.read l.invariant.written l.invariant.unfailed
     c.finish-2.ensures.written c.finish-2.ensures.selected c.finish-2.ensures.trouble
+
+pub returns-clause-trouble : goal.returns-clause-trouble
+returns-clause-trouble g c =
+    let l = c.loop-window in
+    same_result c.finish-2.result _ _ (ap (λ n. g.I.Streams.failures l.files + n) c.finish-2.ensures.failures ∙ l.invariant.counted) c.finish-2.ensures.trouble
+
+pub returns-then-count-eq0-clause-trouble : goal.returns-then-count-eq0-clause-trouble
+returns-then-count-eq0-clause-trouble g c =
+    let l = c.loop-window in
+    same_result c.finish.result _ _ (ap (λ n. g.I.Streams.failures c.read_on.new.files + n) c.finish.ensures.failures ∙ c.in-Ok.ensures.failures ∙ l.invariant.counted) c.finish.ensures.trouble
+
+pub returns-in-Err-clause-trouble : goal.returns-in-Err-clause-trouble
+returns-in-Err-clause-trouble g c =
+    let l = c.loop-window in
+    more_result c.finish-in-Err.result _ _ (ap (λ n. g.I.Streams.failures c.read_on.new.files + n) c.finish-in-Err.ensures.failures ∙ c.in-Err.ensures.failures ∙ ap (λ n. n + 1) l.invariant.counted) c.finish-in-Err.ensures.trouble

@@ -18,6 +18,7 @@ invariant-loop-window g l = record {
   same : g.I.Inputs.given l.files ≡ g.I.Inputs.given l.fn.files;
   mark : l.window.mark ≡ l.fn.task.labels.end;
   passed : HasNone l.window.mark l.window.bytes;
+  counted : g.I.Streams.failures l.files + l.window.failures ≡ g.I.Streams.failures l.fn.files + l.fn.window.failures;
 }
 
 abbrev pub decreases-loop-window : goal.decreases-loop-window

@@ -9,7 +9,7 @@ use Rattle.daachorse_uses.proofs.stream.name_matches.Goals as goal
 pub returns : goal.returns
 returns g c =
     let contents = g.W.Write.contents in let call = c.replace_all_from_reader in
-    IsCopied-replaced (λ s. s.now) contents _ (λ m. in_brackets m.value) (λ byte. ⊤) (g.R.Read.remaining c.args.reader) (matches_of c.args.words.now)
+    IsCopied-replaced (λ s. s.now) contents _ (λ m. in_brackets m.value) (λ byte. ⊤) (g.R.Read.remaining c.args.reader) (matches_of c.args.words.now) _
     call.result _ c.args.out.now call.new.out call.ensures
     (λ haystack f m old new h may.
     let step = may.6 in

@@ -11,7 +11,7 @@
 
 /* The longest line and text, the most patterns or matches, the longest written form, and how many rows
  * are run at least. */
-enum { LINE = 1 << 14, TEXT = 1 << 12, COUNT = 1 << 10, FORM = 1 << 19, LEAST = 1000 };
+enum { LINE = 1 << 14, TEXT = 1 << 12, COUNT = 1 << 10, FORM = 1 << 23, LEAST = 1000 };
 
 typedef struct {
     uint8_t bytes[TEXT];

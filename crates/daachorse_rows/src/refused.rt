@@ -1,5 +1,8 @@
 //! Why an automaton got no rows.
 
+ghost use Rattle.std.specs.Prelude.{Some};
+ghost use Rattle.daachorse_rows.specs.Refused.{refused_text};
+
 use daachorse_core::errors::DaachorseError;
 use std::error::Error;
 use std::fmt;
@@ -22,6 +25,8 @@ impl<T> fmt::Debug for AccelerateError<T> {
 }
 
 impl<T> fmt::Display for AccelerateError<T> {
+    ghost output = { λ e. Some (refused_text e.refusal) };
+
     fn fmt<W: fmt::Write>(&self, f: &mut fmt::Formatter<W>) -> fmt::Result {
         match self.refusal {
             Some(refusal) => write!(f, "AccelerateError: {refusal}"),

@@ -14,6 +14,7 @@ PAGE = TOP / "CALLS.md"
 FILES = {
     "daachorse::bytewise": [
         "daachorse_bytewise/src/bytewise.rt", "daachorse_bytewise/src/bytewise/builder.rt",
+        "daachorse_bytewise/src/bytewise/searches.rt",
         "daachorse_bytewise/src/bytewise/by_kind.rt", "daachorse_bytewise/src/bytewise/lookup.rt",
         "daachorse_bytewise/src/bytewise/leftmost_streams.rt",
         "daachorse_bytewise/src/bytewise/reader.rt",
@@ -23,6 +24,7 @@ FILES = {
         "daachorse_bytewise/src/bytewise/accelerated.rt"],
     "daachorse::charwise": [
         "daachorse_charwise/src/charwise.rt", "daachorse_charwise/src/charwise/builder.rt",
+        "daachorse_charwise/src/charwise/searches.rt",
         "daachorse_charwise/src/charwise/by_kind.rt", "daachorse_charwise/src/charwise/lookup.rt",
         "daachorse_charwise/src/charwise/leftmost_streams.rt",
         "daachorse_charwise/src/charwise/reader.rt",
@@ -37,7 +39,7 @@ FILES = {
         "daachorse_search/src/matches_from_reader.rt", "daachorse_search/src/leftmost.rt",
         "daachorse_streams/src/leftmost_stream.rt",
         "daachorse_streams/src/leftmost_from_reader.rt"],
-    "daachorse": ["daachorse_model/src/lib.rt", "daachorse_streams/src/stream_marks.rt",
+    "daachorse": ["daachorse_model/src/lib.rt", "daachorse_streams/src/searched.rt", "daachorse_streams/src/stream_marks.rt",
                   "daachorse_streams/src/leftmost_standing.rt"],
     "daachorse::errors": ["daachorse_core/src/errors.rt"],
     "daachorse::laws": ["daachorse_model/src/laws.rt"],

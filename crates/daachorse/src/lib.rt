@@ -23,7 +23,8 @@
 //! - [`DoubleArrayAhoCorasick`] searches bytes, and [`CharwiseDoubleArrayAhoCorasick`] text, by
 //!   characters. Their builders set the kind of matches, the prefilter and the layout.
 //! - [`bytewise::Accelerated`] and [`charwise::Accelerated`], made by `accelerate`, have the same
-//!   searches, which are faster if the automaton is small.
+//!   searches, which are faster if the automaton is small. A function over [`Lends`] takes both.
+//! - [`in_blocks`] makes a reader of blocks of what gives bytes, to search it.
 //! - [`MatchKind`] selects the matches to report, and [`Match`] is one of them.
 //! - [`errors`] has the error type of all calls, and [`Result`] is a result with it.
 //! - [`bytewise`] and [`charwise`] have the types of searches, steppers and states.
@@ -53,7 +54,9 @@ pub use daachorse_core::{
 pub use daachorse_model::laws;
 pub use daachorse_placement::build_helper;
 pub use daachorse_prefilter::prefilter;
+pub use daachorse_search::reader::in_blocks;
 pub use daachorse_serializer::serializer::Serializable;
 pub use daachorse_serializer::{intpack, serializer};
 pub use daachorse_streams::leftmost_standing::LeftmostStanding;
+pub use daachorse_streams::searched::{Lends, Searched};
 pub use daachorse_streams::stream_marks::StreamMarks;

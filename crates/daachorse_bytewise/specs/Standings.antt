@@ -2,8 +2,7 @@
 use Rattle.std.specs.Prelude.{ℕ}
 use Rattle.daachorse_model.specs.Units.{byte_width}
 use Rattle.daachorse_search.specs.Standings.{FindStood, IsFindStanding, IsOverlappingStanding, OverlappingStood}
-use Rattle.daachorse_streams.specs.declared.leftmost_standing.LeftmostStanding.{LeftmostStanding}
-use Rattle.daachorse_streams.specs.Standings.{IsLeftmostStanding}
+use Rattle.daachorse_streams.specs.Standings.{IsLeftmostStanding, LeftmostStood}
 use Rattle.daachorse_rows.specs.Rows.{Rowed, over_rows}
 use Rattle.daachorse_bytewise_states.specs.Parts.{Parts}
 use Rattle.daachorse_bytewise_states.specs.StateRows.{stands_for}
@@ -19,7 +18,7 @@ module _ {V : Type 0} where
   IsOverlappingStandingIn = IsOverlappingStanding byte_width sees
 
   -- a stream of the leftmost search; each byte is its own unit
-  abbrev pub IsLeftmostStandingIn : {ALLOC : Type 0} → Parts V → LeftmostStanding ℕ ALLOC → Type 0
+  abbrev pub IsLeftmostStandingIn : {ALLOC : Type 0} → Parts V → LeftmostStood ℕ ALLOC → Type 0
   IsLeftmostStandingIn a = IsLeftmostStanding byte_width sees a (λ byte. byte)
 
   -- ---- over rows of the states, where a stepper stands at the place of its state

@@ -1,25 +1,17 @@
 //! The automaton over bytes.
 
-ghost use Rattle.std.specs.Prelude.{◌≡◌, ◌≢◌, ◌⊎◌, ℕ, false, true, List, [], IfOk, IfErr, OnOk, OnErr, length, map, max, take};
+ghost use Rattle.std.specs.Prelude.{◌≡◌, ◌⊎◌, ℕ, false, true, List, [], IfOk, IfErr, OnOk, OnErr, length, map, max};
 ghost use Rattle.std.specs.Iterator.{IsFinite};
 ghost use Rattle.std.specs.Iterator.Runs.{WholeRun};
 ghost use Rattle.std.specs.List.{fold};
-ghost use Rattle.std.specs.Option.{option_to_list};
 ghost use Rattle.daachorse_core.specs.Refusals.{IsOutOfMemory};
 ghost use Rattle.daachorse_model.specs.declared.MatchKind.TheVariants.{Standard};
-ghost use Rattle.daachorse_model.specs.Units.{byte_width};
 ghost use Rattle.daachorse_model.specs.Dictionary.{registrations_of};
-ghost use Rattle.daachorse_model.specs.Folding.{as_read};
-ghost use Rattle.daachorse_model.specs.Leftmost.{leftmost};
-ghost use Rattle.daachorse_model.specs.Matches.{matches_after, no_suffix, overlapping, standard, standard_after};
 ghost use Rattle.daachorse_model.specs.Prefixes.{HasPrefixes, IsListing};
-ghost use Rattle.daachorse_search.specs.Beginnings.{BeginsFrom, BeginsStepping, BeginsWith};
 ghost use Rattle.daachorse_haystack.specs.Filters.{IsSoundFor};
-ghost use Rattle.daachorse_prefilter.specs.Asked.{BeginsAsking, lets_pass};
+ghost use Rattle.daachorse_prefilter.specs.Asked.{BeginsAskingBoth, lets_pass};
 ghost use Rattle.daachorse_prefilter.specs.Buckets.{may_begin};
 ghost use Rattle.daachorse_bytewise.specs.Automata.{HasDepths, MayFold, MayHaveFilter, dictionary_of, kind_of, states_of};
-ghost use Rattle.daachorse_core.specs.Seen.{units};
-ghost use Rattle.daachorse_bytewise.specs.Standings.{IsFindStandingIn, IsOverlappingStandingIn};
 ghost use Rattle.daachorse_bytewise.specs.Building.{IsBuildRefusal, IsBuiltOf, IsBuiltWith, IsRefusalOf, kept_filter};
 
 pub mod accelerated;
@@ -30,36 +22,38 @@ mod leftmost_streams;
 mod lookup;
 mod reader;
 mod replacing;
+mod searched;
+mod searches;
 pub mod states;
 mod streaming;
 mod written;
 
 pub use crate::bytewise::accelerated::{AccelerateError, Accelerated};
 pub use crate::bytewise::builder::DoubleArrayAhoCorasickBuilder;
-use crate::bytewise::iter::{
-    FindIterator, FindOverlappingIterator, FindOverlappingNoSuffixIterator,
-    FindOverlappingNoSuffixSliceIterator, FindOverlappingSliceIterator, FindOverlappingStepper,
-    FindSliceIterator, FindStepper, LeftmostFindIterator, PatternIterator,
-};
+use crate::bytewise::iter::PatternIterator;
 use crate::bytewise::states::States;
 use daachorse_core::MatchKind;
 use daachorse_core::errors::Result;
-use daachorse_haystack::haystack::Bytes;
-use daachorse_haystack::source;
 use daachorse_prefilter::prefilter::{Prefilter, clone_filter};
 use daachorse_prefilter::skipping::Skipping;
-use daachorse_search::find::{FindWalk, find_in};
-use daachorse_search::find_stepper::FindStanding;
-use daachorse_search::leftmost::LeftmostMatches;
-use daachorse_search::matches_from::MatchesFrom;
-use daachorse_search::overlapping::{
-    NoSuffixWalk, OverlappingWalk, find_overlapping_in, find_overlapping_no_suffix_in,
-};
-use daachorse_search::overlapping_stepper::OverlappingStanding;
+use daachorse_streams::searched::Searched;
 use std::alloc::{Allocator, Global};
 use std::fmt;
 use std::hash::{Hash, Hasher};
 use std::marker::Model;
+
+/// An automaton that finds many patterns in bytes at once, over what its searches go through: its
+/// states ([`DoubleArrayAhoCorasick`]), or these with rows ([`Accelerated`]).
+#[derive(Drop)]
+pub struct AhoCorasick<S: Drop> {
+    searched: S,
+}
+
+impl<S: Drop> Model for AhoCorasick<S> {
+    ghost Value = { S };
+
+    ghost view = { λ s. s.searched };
+}
 
 /// An automaton that finds many patterns in bytes at once.
 ///
@@ -73,8 +67,11 @@ use std::marker::Model;
 /// search takes at most two turns, looks at one state, for each byte.
 ///
 /// Threads can share an automaton: it is `Send` and `Sync` if its values and its allocator are.
+pub type DoubleArrayAhoCorasick<V, A = Global> = AhoCorasick<Plain<V, A>>;
+
+/// The states of an automaton, with its options, its filter and its depths.
 #[derive(Drop)]
-pub struct DoubleArrayAhoCorasick<V: Copy, A: Allocator = Global> {
+pub struct Plain<V: Copy, A: Allocator = Global> {
     states: States<V, A>,
     // Whether A to Z of a haystack are read as a to z. The patterns then have no A to Z.
     folds: bool,
@@ -92,7 +89,7 @@ const fn automaton_is_send_and_sync<V: Copy + Send + Sync, A: Allocator + Send +
     is_send_and_sync::<DoubleArrayAhoCorasick<V, A>>();
 }
 
-impl<V: Copy, A: Allocator> Model for DoubleArrayAhoCorasick<V, A> {
+impl<V: Copy, A: Allocator> Model for Plain<V, A> {
     ghost use Rattle.daachorse_bytewise.specs.Automata.{Automaton, IsKept};
 
     ghost Value = { Automaton V };
@@ -100,6 +97,24 @@ impl<V: Copy, A: Allocator> Model for DoubleArrayAhoCorasick<V, A> {
     ghost view = { λ a. record { parts = a.states; folds = a.folds; filter = a.filter; depths = a.depths.items } };
 
     ghost invariant = { λ a. IsKept a.states a.folds a.filter a.depths.items };
+}
+
+impl<V: Copy, A: Allocator + Copy> Plain<V, A> {
+    /// Computes the depths.
+    fn cache_depths(&mut self) -> Result<()>
+        requires { kind_of self.old ≡ Standard }
+        ensures states { states_of self.new ≡ states_of self.old }
+        ensures folds { self.new.folds ≡ self.old.folds }
+        ensures filter { self.new.filter ≡ self.old.filter }
+        ensures ok { OnOk result (HasDepths self.new) }
+        ensures unchanged { OnErr result (self.new ≡ self.old) }
+        ensures err { IfErr result IsOutOfMemory }
+    {
+        prove!(self.states.kind().is_standard());
+        let depths = self.states.depths(*self.depths.allocator())?;
+        self.depths = depths;
+        Ok(())
+    }
 }
 
 impl<V: Copy, A: Allocator + Copy> DoubleArrayAhoCorasick<V, A> {
@@ -156,11 +171,13 @@ impl<V: Copy, A: Allocator + Copy> DoubleArrayAhoCorasick<V, A> {
         ensures filter { result.filter ≡ filter }
         ensures depths { result.depths ≡ [] }
     {
-        Self {
-            states,
-            folds,
-            filter,
-            depths: Vec::new(alloc),
+        AhoCorasick {
+            searched: Plain {
+                states,
+                folds,
+                filter,
+                depths: Vec::new(alloc),
+            },
         }
     }
 
@@ -175,10 +192,7 @@ impl<V: Copy, A: Allocator + Copy> DoubleArrayAhoCorasick<V, A> {
         ensures unchanged { OnErr result (self.new ≡ self.old) }
         ensures err { IfErr result IsOutOfMemory }
     {
-        prove!(self.match_kind().is_standard());
-        let depths = self.states.depths(*self.depths.allocator())?;
-        self.depths = depths;
-        Ok(())
+        self.searched.cache_depths()
     }
 
     /// Lists the patterns with their values in byte order, equal ones in order of registration.
@@ -190,7 +204,7 @@ impl<V: Copy, A: Allocator + Copy> DoubleArrayAhoCorasick<V, A> {
         ensures ok { IfOk result (λ patterns. IsListing (dictionary_of self.entry.now) patterns) }
         ensures err { IfErr result IsOutOfMemory }
     {
-        self.states.pattern_iter(alloc)
+        self.searched.states.pattern_iter(alloc)
     }
 
     /// Returns the number of patterns that [`Self::iter`] lists, where equal ones count each.
@@ -228,12 +242,15 @@ impl<V: Copy, A: Allocator + Copy> DoubleArrayAhoCorasick<V, A> {
         ensures same { IfOk result (λ a. a ≡ self.now) }
         ensures err { IfErr result IsOutOfMemory }
     {
-        let depths = Vec::from_slice(*self.depths.allocator(), &self.depths)?;
-        Ok(Self {
-            states: self.states.clone()?,
-            folds: self.folds,
-            filter: clone_filter(&self.filter)?,
-            depths,
+        let of = &self.searched;
+        let depths = Vec::from_slice(*of.depths.allocator(), &of.depths)?;
+        Ok(AhoCorasick {
+            searched: Plain {
+                states: of.states.clone()?,
+                folds: of.folds,
+                filter: clone_filter(&of.filter)?,
+                depths,
+            },
         })
     }
 }
@@ -250,9 +267,10 @@ impl<V: Copy + PartialEq, A: Allocator> PartialEq for DoubleArrayAhoCorasick<V, 
     ghost laws = { automaton_per filter_equiv (parts_per V.laws) };
 
     fn eq(&self, other: &Self) -> bool {
-        self.states == other.states
-            && (self.folds == other.folds
-                && (self.filter == other.filter && self.depths == other.depths))
+        self.searched.states == other.searched.states
+            && (self.searched.folds == other.searched.folds
+                && (self.searched.filter == other.searched.filter
+                    && self.searched.depths == other.searched.depths))
     }
 }
 
@@ -275,10 +293,10 @@ impl<V: Copy + Hash, A: Allocator> Hash for DoubleArrayAhoCorasick<V, A> {
     ghost respects_eq = { automaton_alike filter_alike (parts_alike V.respects_eq) };
 
     fn hash<H: Hasher>(&self, state: &mut H) {
-        self.states.hash(state);
-        self.folds.hash(state);
-        self.filter.hash(state);
-        self.depths.hash(state);
+        self.searched.states.hash(state);
+        self.searched.folds.hash(state);
+        self.searched.filter.hash(state);
+        self.searched.depths.hash(state);
     }
 }
 
@@ -287,245 +305,42 @@ impl<V: Copy, A: Allocator> fmt::Debug for DoubleArrayAhoCorasick<V, A> {
     fn fmt<W: fmt::Write>(&self, f: &mut fmt::Formatter<W>) -> fmt::Result {
         f.debug_struct("DoubleArrayAhoCorasick")
             .field("match_kind", &self.match_kind())
-            .field("ascii_case_insensitive", &self.folds)
+            .field("ascii_case_insensitive", &self.searched.folds)
             .field("num_states", &self.num_states())
-            .field("num_elements", &self.states.num_elements())
-            .field("prefilter", &self.filter.is_some())
+            .field("num_elements", &self.searched.states.num_elements())
+            .field("prefilter", &self.searched.filter.is_some())
             .finish()
     }
 }
 
-impl<V: Copy, A: Allocator> DoubleArrayAhoCorasick<V, A> {
+impl<S: Searched<u8>> AhoCorasick<S> {
     /// Returns the kind of searches that the automaton is for.
     pub fn match_kind(&self) -> MatchKind
-        ensures { result ≡ kind_of self.now }
+        ensures { result ≡ S.kind self.now }
     {
-        self.states.kind()
+        self.searched.match_kind()
     }
 
     /// Returns whether searches ignore the case of ASCII letters.
     pub fn is_ascii_case_insensitive(&self) -> bool
-        ensures { result ≡ self.now.folds }
+        ensures { result ≡ S.folds self.now }
     {
-        self.folds
+        self.searched.is_ascii_case_insensitive()
     }
 
     /// Returns the number of states: one for each prefix of a pattern, the empty one included.
     pub fn num_states(&self) -> usize
-        ensures { HasPrefixes (dictionary_of self.now) result }
+        ensures { HasPrefixes (S.dictionary self.now) result }
     {
-        self.states.num_states() as usize
+        self.searched.num_states()
     }
 
-    /// The prefilter for a new search in a slice.
+    /// The filter for a new search in a slice.
     #[inline(always)]
-    fn skipping<'a>(&'a self) -> Skipping<'a, A>
-        ensures asks { BeginsAsking self.entry.now.filter result }
-        ensures sound { IsSoundFor (λ w. lets_pass (may_begin result.buckets) result.filter w) (dictionary_of self.entry.now) }
+    fn skipping<'s>(&'s self) -> Skipping<'s, S::Alloc>
+        ensures asks { BeginsAskingBoth (S.buckets self.entry.now) (S.filter self.entry.now) result }
+        ensures sound { IsSoundFor (λ w. lets_pass (may_begin result.buckets) result.filter w) (S.dictionary self.entry.now) }
     {
-        Skipping::new(self.filter.as_ref())
-    }
-
-    /// Finds non-overlapping matches in a haystack, each of which ends as early as possible.
-    ///
-    /// Of matches that end together it takes the longest, and of equal patterns the first
-    /// registered. An empty pattern matches once at each boundary. Of `bcd`, `ab` and `a` in `abcd`
-    /// it finds `a` from 0 to 1 and `bcd` from 1 to 4.
-    #[inline(always)]
-    #[tactic(auto, using(daachorse_bytewise_states::proofs::DeadLaws::alive))]
-    pub fn find_iter<'a>(&'a self, haystack: &'a [u8]) -> FindSliceIterator<'a, V, A>
-        requires { kind_of self.now ≡ Standard }
-        ensures begins { BeginsWith (states_of self.entry.now) (as_read self.entry.now.folds haystack.entry.now)
-            (standard byte_width (dictionary_of self.entry.now) (as_read self.entry.now.folds haystack.entry.now)) result }
-        ensures asks { BeginsAsking self.entry.now.filter result.filter }
-    {
-        find_in(
-            self.states.standard(),
-            Bytes::new(haystack, self.folds),
-            self.skipping(),
-        )
-    }
-
-    /// Finds the matches of [`Self::find_iter`] in the bytes that `haystack` yields, each before a
-    /// byte past its end is taken. Places count from where the source stands.
-    #[inline(always)]
-    #[tactic(auto, using(daachorse_bytewise_states::proofs::DeadLaws::alive))]
-    pub fn find_iter_from_iter<'a, P: Iterator<Item = u8>>(
-        &'a self,
-        haystack: P,
-    ) -> FindIterator<'a, P, V>
-        requires { kind_of self.now ≡ Standard }
-        ensures { BeginsFrom (states_of self.entry.now) haystack
-            (option_to_list (standard_after byte_width (dictionary_of self.entry.now) [])) self.entry.now.folds result }
-    {
-        MatchesFrom::new(
-            FindWalk::new(self.states.standard()),
-            source::Bytes::new(haystack),
-            self.folds,
-        )
-    }
-
-    /// Finds every match in a haystack, by rising ends; they may overlap.
-    ///
-    /// Of matches that end together the longest comes first, and equal patterns come in order of
-    /// registration. Of `bcd`, `ab` and `a` in `abcd` it finds `a` from 0 to 1, `ab` from 0 to 2
-    /// and `bcd` from 1 to 4.
-    #[inline(always)]
-    #[tactic(auto, using(daachorse_bytewise_states::proofs::DeadLaws::alive))]
-    pub fn find_overlapping_iter<'a>(
-        &'a self,
-        haystack: &'a [u8],
-    ) -> FindOverlappingSliceIterator<'a, V, A>
-        requires { kind_of self.now ≡ Standard }
-        ensures begins { BeginsWith (states_of self.entry.now) (as_read self.entry.now.folds haystack.entry.now)
-            (overlapping byte_width (dictionary_of self.entry.now) (as_read self.entry.now.folds haystack.entry.now)) result }
-        ensures asks { BeginsAsking self.entry.now.filter result.filter }
-    {
-        find_overlapping_in(
-            self.states.standard(),
-            Bytes::new(haystack, self.folds),
-            self.skipping(),
-        )
-    }
-
-    /// Finds the matches of [`Self::find_overlapping_iter`] in the bytes that `haystack` yields,
-    /// each before a byte past its end is taken. Places count from where the source stands.
-    #[inline(always)]
-    #[tactic(auto, using(daachorse_bytewise_states::proofs::DeadLaws::alive))]
-    pub fn find_overlapping_iter_from_iter<'a, P: Iterator<Item = u8>>(
-        &'a self,
-        haystack: P,
-    ) -> FindOverlappingIterator<'a, P, V>
-        requires { kind_of self.now ≡ Standard }
-        ensures { BeginsFrom (states_of self.entry.now) haystack
-            (matches_after byte_width (dictionary_of self.entry.now) []) self.entry.now.folds result }
-    {
-        MatchesFrom::new(
-            OverlappingWalk::new(self.states.standard()),
-            source::Bytes::new(haystack),
-            self.folds,
-        )
-    }
-
-    /// Finds the longest match at each end in a haystack, by rising ends; they may overlap.
-    ///
-    /// Of equal patterns it takes the first registered. Of `abcd`, `cd` and `bc` in `abcd` it finds
-    /// `bc` from 1 to 3 and `abcd` from 0 to 4, but not `cd`.
-    #[inline(always)]
-    #[tactic(auto, using(daachorse_bytewise_states::proofs::DeadLaws::alive))]
-    pub fn find_overlapping_no_suffix_iter<'a>(
-        &'a self,
-        haystack: &'a [u8],
-    ) -> FindOverlappingNoSuffixSliceIterator<'a, V, A>
-        requires { kind_of self.now ≡ Standard }
-        ensures begins { BeginsWith (states_of self.entry.now) (as_read self.entry.now.folds haystack.entry.now)
-            (no_suffix byte_width (dictionary_of self.entry.now) (as_read self.entry.now.folds haystack.entry.now)) result }
-        ensures asks { BeginsAsking self.entry.now.filter result.filter }
-    {
-        find_overlapping_no_suffix_in(
-            self.states.standard(),
-            Bytes::new(haystack, self.folds),
-            self.skipping(),
-        )
-    }
-
-    /// Finds the matches of [`Self::find_overlapping_no_suffix_iter`] in the bytes that `haystack`
-    /// yields, each before a byte past its end is taken. Places count from where the source stands.
-    #[inline(always)]
-    #[tactic(auto, using(daachorse_bytewise_states::proofs::DeadLaws::alive))]
-    pub fn find_overlapping_no_suffix_iter_from_iter<'a, P: Iterator<Item = u8>>(
-        &'a self,
-        haystack: P,
-    ) -> FindOverlappingNoSuffixIterator<'a, P, V>
-        requires { kind_of self.now ≡ Standard }
-        ensures { BeginsFrom (states_of self.entry.now) haystack
-            (take 1 (matches_after byte_width (dictionary_of self.entry.now) [])) self.entry.now.folds result }
-    {
-        MatchesFrom::new(
-            NoSuffixWalk::new(self.states.standard()),
-            source::Bytes::new(haystack),
-            self.folds,
-        )
-    }
-
-    /// Finds non-overlapping matches in a haystack, each of which starts as early as possible.
-    ///
-    /// Of matches that start together [`MatchKind::LeftmostFirst`] takes the first registered, and
-    /// [`MatchKind::LeftmostLongest`] the longest, of equal patterns the first registered. Of `ab`,
-    /// `a` and `abcd` in `abcd` these are `ab` and `abcd`. No empty match comes right after a
-    /// nonempty one. It takes at most two turns for each byte passed, and for each match four for
-    /// each byte of the longest pattern.
-    #[inline(always)]
-    #[tactic(auto, using(daachorse_bytewise_states::proofs::DeadLaws::is_leftmost_automaton))]
-    pub fn leftmost_find_iter<'a>(&'a self, haystack: &'a [u8]) -> LeftmostFindIterator<'a, V, A>
-        requires { kind_of self.now ≢ Standard }
-        ensures begins { BeginsWith (states_of self.entry.now) (as_read self.entry.now.folds haystack.entry.now)
-            (leftmost byte_width (dictionary_of self.entry.now) (as_read self.entry.now.folds haystack.entry.now)) result }
-        ensures asks { BeginsAsking self.entry.now.filter result.filter }
-    {
-        LeftmostMatches::with_filter(
-            self.states.leftmost(),
-            Bytes::new(haystack, self.folds),
-            self.skipping(),
-        )
-    }
-
-    /// Starts the search of [`Self::find_iter`], to be given one byte at a time.
-    #[inline(always)]
-    #[tactic(auto, using(daachorse_bytewise_states::proofs::DeadLaws::alive))]
-    pub fn find_stepper<'a>(&'a self) -> FindStepper<'a, V>
-        requires { kind_of self.now ≡ Standard }
-        ensures { BeginsStepping (states_of self.entry.now) self.entry.now.depths self.entry.now.folds
-            (option_to_list (standard_after byte_width (dictionary_of self.entry.now) [])) result }
-    {
-        let walk = FindWalk::new(self.states.standard());
-        FindStepper::new(walk, &self.depths, self.folds)
-    }
-
-    /// Starts the search of [`Self::find_overlapping_iter`], to be given one byte at a time.
-    #[inline(always)]
-    #[tactic(auto, using(daachorse_bytewise_states::proofs::DeadLaws::alive))]
-    pub fn find_overlapping_stepper<'a>(&'a self) -> FindOverlappingStepper<'a, V>
-        requires { kind_of self.now ≡ Standard }
-        ensures { BeginsStepping (states_of self.entry.now) self.entry.now.depths self.entry.now.folds
-            (matches_after byte_width (dictionary_of self.entry.now) []) result }
-    {
-        let walk = OverlappingWalk::new(self.states.standard());
-        FindOverlappingStepper::new(walk, &self.depths, self.folds)
-    }
-
-    /// Resumes a search of [`Self::find_stepper`] over this automaton. Places still count from the
-    /// beginning of the whole haystack.
-    #[inline(always)]
-    pub fn resume_find_stepper<'a>(&'a self, standing: FindStanding) -> FindStepper<'a, V>
-        requires kind { kind_of self.now ≡ Standard }
-        requires stands { IsFindStandingIn (states_of self.now) standing }
-        ensures automaton { result.automaton ≡ states_of self.entry.now }
-        ensures depths { result.depths ≡ self.entry.now.depths }
-        ensures folds { result.folds ≡ self.entry.now.folds }
-        ensures read { result.read ≡ units standing.walk.seen }
-        ensures turns { result.turns ≡ standing.walk.turns }
-        ensures given { result.given ≡ length (standard byte_width (dictionary_of self.entry.now) (units standing.walk.seen)) }
-    {
-        FindStepper::resume(self.states.standard(), &self.depths, standing, self.folds)
-    }
-
-    /// Resumes a search of [`Self::find_overlapping_stepper`] over this automaton. Places still
-    /// count from the beginning of the whole haystack.
-    #[inline(always)]
-    pub fn resume_find_overlapping_stepper<'a>(
-        &'a self,
-        standing: OverlappingStanding,
-    ) -> FindOverlappingStepper<'a, V>
-        requires kind { kind_of self.now ≡ Standard }
-        requires stands { IsOverlappingStandingIn (states_of self.now) standing }
-        ensures automaton { result.automaton ≡ states_of self.entry.now }
-        ensures depths { result.depths ≡ self.entry.now.depths }
-        ensures folds { result.folds ≡ self.entry.now.folds }
-        ensures read { result.read ≡ units standing.walk.seen }
-        ensures turns { result.turns ≡ standing.walk.turns }
-        ensures given { result.given ≡ length (overlapping byte_width (dictionary_of self.entry.now) (units standing.walk.seen)) }
-    {
-        FindOverlappingStepper::resume(self.states.standard(), &self.depths, standing, self.folds)
+        self.searched.skipping()
     }
 }

@@ -159,19 +159,19 @@ module _ {N : Type 0} where
   abbrev pub read_by : Standing N → List ℕ
   read_by (AtFind s told) = units s.walk.seen
   read_by (AtOverlapping s) = units s.walk.seen
-  read_by (AtLeftmost s) = s.search.seen.since
+  read_by (AtLeftmost s) = s.read
 
   -- a leftmost search has not been told that the haystack has ended
   abbrev pub IsUnended : Standing N → Type 0
   IsUnended (AtFind s told) = ⊤
   IsUnended (AtOverlapping s) = ⊤
-  IsUnended (AtLeftmost s) = s.search.ended ≡ false
+  IsUnended (AtLeftmost s) = s.ended ≡ false
 
   -- it has consumed so many bytes
   abbrev pub IsPlaced : (ℕ → ℕ) → Standing N → Type 0
   IsPlaced width (AtFind s told) = s.place ≡ size width (units s.walk.seen)
   IsPlaced width (AtOverlapping s) = s.place ≡ size width (units s.walk.seen)
-  IsPlaced width (AtLeftmost s) = s.place ≡ size width s.search.seen.since
+  IsPlaced width (AtLeftmost s) = s.place ≡ size width s.read
 
 module _ {S L N : Type 0} (width : ℕ → ℕ) (standard : S → AutomatonView ℕ) (leftmost : L → AutomatonView ℕ) (unit : N → ℕ) (a : S) (b : L) where
   -- a stepper over a and b stands so

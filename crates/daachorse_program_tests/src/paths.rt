@@ -42,20 +42,22 @@ mod over_bytes {
         CommonPrefixIterator, FindIterator, FindOverlappingIterator,
         FindOverlappingNoSuffixIterator, FindOverlappingNoSuffixSliceIterator,
         FindOverlappingSliceIterator, FindOverlappingStepper, FindOverlappingStepperIterator,
-        FindSliceIterator, FindStepper, LeftmostFindIterator, PatternIterator, ValueIterator,
+        FindSliceIterator, FindStepper, LeftmostFindIterator, MatchesByKind, PatternIterator,
+        ValueIterator,
     };
     pub use daachorse::bytewise::states::{Leftmost, Seen, Standard, State};
     pub use daachorse::bytewise::{
-        DoubleArrayAhoCorasick, DoubleArrayAhoCorasickBuilder as Builder,
+        AhoCorasick, DoubleArrayAhoCorasick, DoubleArrayAhoCorasickBuilder as Builder, Plain,
     };
 }
 
 /// The names of the automaton over bytes with rows of its states.
 mod over_rows {
     pub use daachorse::bytewise::accelerated::{
-        Accelerated as ByItsModule, RowedLeftmost, RowedStandard,
+        Accelerated as ByItsModule, Rowed, RowedLeftmost, RowedStandard,
     };
     pub use daachorse::bytewise::{AccelerateError, Accelerated};
+    pub use daachorse::{Lends, Searched, in_blocks};
 }
 
 /// The names of the automaton over characters.

@@ -2,6 +2,7 @@
 #![tactic(auto)]
 
 pub mod block_source;
+pub mod by_kind;
 pub mod keep;
 pub mod leftmost_from_reader;
 pub mod leftmost_standing;
@@ -9,4 +10,5 @@ pub mod leftmost_stream;
 pub mod replacing;
 mod scan;
 mod search;
+pub mod searched;
 pub mod stream_marks;

@@ -12,7 +12,7 @@ use crate::searched::Searched;
 use daachorse::{Match, MatchKind, Result};
 use std::alloc::Global;
 use std::fmt::Debug;
-use std::io::{self, BufRead, ErrorKind, Read};
+use std::io::{self, BufRead, ErrorKind};
 
 /// An automaton whose patterns are texts.
 pub trait Automaton: Searched + PartialEq + Debug + Drop + Sized {
@@ -63,16 +63,7 @@ pub trait Automaton: Searched + PartialEq + Debug + Drop + Sized {
     fn streams_resumed(&self, alloc: Global, case: &Case, times: &[usize], cut: usize) -> bool;
 
     /// Whether a stream over a reader gives exactly these matches, then this error.
-    fn streams_from_reader<R: Read + Drop>(
-        &self,
-        alloc: Global,
-        reader: R,
-        expected: &[Found],
-        error: Option<ErrorKind>,
-    ) -> io::Result<bool>;
-
-    /// The same over a buffered reader.
-    fn streams_from_buf_reader<R: BufRead + Drop>(
+    fn streams_from_reader<R: BufRead + Drop>(
         &self,
         alloc: Global,
         reader: R,

@@ -225,7 +225,7 @@ where
 }
 
 /// Whether a search of the bytes of a slice in turn gives the expected matches, in this order.
-pub fn gives_from<W: Stepwise<u32, Unit = u8>>(
+fn are_from<W: Stepwise<u32, Unit = u8>>(
     search: MatchesFrom<u32, W, source::Bytes<Copied<Iter<'_, u8>>>>,
     expected: &[Found],
 ) -> bool
@@ -234,8 +234,39 @@ pub fn gives_from<W: Stepwise<u32, Unit = u8>>(
     are(search, expected)
 }
 
+/// Whether a search of the bytes of a slice in turn, for matches that do not overlap, gives the
+/// expected matches, in this order.
+pub fn gives_from<A: Automaton<u32, Unit = u8>>(
+    search: MatchesFrom<u32, FindWalk<u32, A>, source::Bytes<Copied<Iter<'_, u8>>>>,
+    expected: &[Found],
+) -> bool
+    requires { search.read ≡ [] }
+{
+    are_from(search, expected)
+}
+
+/// As [`gives_from`], for all matches.
+pub fn gives_overlapping_from<A: Automaton<u32, Unit = u8>>(
+    search: MatchesFrom<u32, OverlappingWalk<u32, A>, source::Bytes<Copied<Iter<'_, u8>>>>,
+    expected: &[Found],
+) -> bool
+    requires { search.read ≡ [] }
+{
+    are_from(search, expected)
+}
+
+/// As [`gives_from`], for the longest match at each end.
+pub fn gives_no_suffix_from<A: Automaton<u32, Unit = u8>>(
+    search: MatchesFrom<u32, NoSuffixWalk<u32, A>, source::Bytes<Copied<Iter<'_, u8>>>>,
+    expected: &[Found],
+) -> bool
+    requires { search.read ≡ [] }
+{
+    are_from(search, expected)
+}
+
 /// Whether a search of the bytes of a text in turn gives the expected matches, in this order.
-pub fn gives_from_text<W: Stepwise<u32, Unit = char>>(
+fn are_from_text<W: Stepwise<u32, Unit = char>>(
     search: MatchesFrom<u32, W, Decoded<str::Bytes<'_>>>,
     text: &str,
     expected: &[Found],
@@ -245,6 +276,43 @@ pub fn gives_from_text<W: Stepwise<u32, Unit = char>>(
 {
     let _len = text.len();
     are(search, expected)
+}
+
+/// Whether a search of the bytes of a text in turn, for matches that do not overlap, gives the
+/// expected matches, in this order.
+pub fn gives_from_text<A: Automaton<u32, Unit = char>>(
+    search: MatchesFrom<u32, FindWalk<u32, A>, Decoded<str::Bytes<'_>>>,
+    text: &str,
+    expected: &[Found],
+) -> bool
+    requires read { search.read ≡ [] }
+    requires source { bytes_rest search.source ≡ text.now }
+{
+    are_from_text(search, text, expected)
+}
+
+/// As [`gives_from_text`], for all matches.
+pub fn gives_overlapping_from_text<A: Automaton<u32, Unit = char>>(
+    search: MatchesFrom<u32, OverlappingWalk<u32, A>, Decoded<str::Bytes<'_>>>,
+    text: &str,
+    expected: &[Found],
+) -> bool
+    requires read { search.read ≡ [] }
+    requires source { bytes_rest search.source ≡ text.now }
+{
+    are_from_text(search, text, expected)
+}
+
+/// As [`gives_from_text`], for the longest match at each end.
+pub fn gives_no_suffix_from_text<A: Automaton<u32, Unit = char>>(
+    search: MatchesFrom<u32, NoSuffixWalk<u32, A>, Decoded<str::Bytes<'_>>>,
+    text: &str,
+    expected: &[Found],
+) -> bool
+    requires read { search.read ≡ [] }
+    requires source { bytes_rest search.source ≡ text.now }
+{
+    are_from_text(search, text, expected)
 }
 
 /// Whether these are the expected values, in this order.
@@ -262,7 +330,7 @@ pub fn are_values<I: Iterator<Item = u32> + Drop>(values: I, expected: &[u32]) -
 }
 
 /// Whether a search returns the expected matches, in this order. It is dropped at any other.
-pub fn gives<W: Stepwise<u32>, H: Haystack<W::Unit>, F: Filter<W::Unit, H>>(
+fn are_given<W: Stepwise<u32>, H: Haystack<W::Unit>, F: Filter<W::Unit, H>>(
     mut search: Matches<u32, W, H, F>,
     expected: &[Found],
 ) -> bool {
@@ -270,6 +338,31 @@ pub fn gives<W: Stepwise<u32>, H: Haystack<W::Unit>, F: Filter<W::Unit, H>>(
     expected.take_all(&mut search);
     search.turns_are_bounded();
     expected.is_met()
+}
+
+/// Whether a search for matches that do not overlap returns the expected matches, in this order. It
+/// is dropped at any other.
+pub fn gives<A: Automaton<u32>, H: Haystack<A::Unit>, F: Filter<A::Unit, H>>(
+    search: Matches<u32, FindWalk<u32, A>, H, F>,
+    expected: &[Found],
+) -> bool {
+    are_given(search, expected)
+}
+
+/// As [`gives`], for all matches.
+pub fn gives_overlapping<A: Automaton<u32>, H: Haystack<A::Unit>, F: Filter<A::Unit, H>>(
+    search: Matches<u32, OverlappingWalk<u32, A>, H, F>,
+    expected: &[Found],
+) -> bool {
+    are_given(search, expected)
+}
+
+/// As [`gives`], for the longest match at each end.
+pub fn gives_no_suffix<A: Automaton<u32>, H: Haystack<A::Unit>, F: Filter<A::Unit, H>>(
+    search: Matches<u32, NoSuffixWalk<u32, A>, H, F>,
+    expected: &[Found],
+) -> bool {
+    are_given(search, expected)
 }
 
 /// Whether a leftmost search returns the expected matches, in this order. It is dropped at any

@@ -12,7 +12,7 @@ use crate::finding::{Found, is_found};
 use crate::replaced::{Slow, Style};
 use crate::report::{Differences, Form};
 use crate::row::{Pattern, Search};
-use daachorse::{Match, MatchKind, Result};
+use daachorse::{Match, MatchKind, Result, in_blocks};
 use daachorse_model::slow::Width;
 use std::alloc::Global;
 use std::io::{self, BufRead, BufReader, ErrorKind, Read, Write};
@@ -38,15 +38,7 @@ pub trait Searched {
 
     fn overlapping_from_iter(&self, case: &Case, expected: &[Found]) -> bool;
 
-    fn overlapping_from_reader<R: Read + Drop>(
-        &self,
-        alloc: Global,
-        reader: R,
-        expected: &[Found],
-        error: Option<ErrorKind>,
-    ) -> bool;
-
-    fn overlapping_from_buf_reader<R: BufRead + Drop>(
+    fn overlapping_from_reader<R: BufRead + Drop>(
         &self,
         reader: R,
         expected: &[Found],
@@ -63,15 +55,7 @@ pub trait Searched {
 
     fn no_suffix_from_iter(&self, case: &Case, expected: &[Found]) -> bool;
 
-    fn no_suffix_from_reader<R: Read + Drop>(
-        &self,
-        alloc: Global,
-        reader: R,
-        expected: &[Found],
-        error: Option<ErrorKind>,
-    ) -> bool;
-
-    fn no_suffix_from_buf_reader<R: BufRead + Drop>(
+    fn no_suffix_from_reader<R: BufRead + Drop>(
         &self,
         reader: R,
         expected: &[Found],
@@ -82,15 +66,7 @@ pub trait Searched {
 
     fn find_from_iter(&self, case: &Case, expected: &[Found]) -> bool;
 
-    fn find_from_reader<R: Read + Drop>(
-        &self,
-        alloc: Global,
-        reader: R,
-        expected: &[Found],
-        error: Option<ErrorKind>,
-    ) -> bool;
-
-    fn find_from_buf_reader<R: BufRead + Drop>(
+    fn find_from_reader<R: BufRead + Drop>(
         &self,
         reader: R,
         expected: &[Found],
@@ -181,13 +157,16 @@ fn compare_overlapping<S: Searched>(
     let expected = case.expected.as_slice();
     let bytes = case.bytes.as_slice();
     if by_blocks {
-        let holds = searched.overlapping_from_reader(alloc, bytes, expected, error);
+        let holds = match in_blocks(alloc, bytes) {
+            Ok(reader) => searched.overlapping_from_reader(reader, expected, error),
+            Err(_) => false,
+        };
         differences.note(Form::Reader, holds);
     }
-    let holds = searched.overlapping_from_buf_reader(bytes, expected, error);
+    let holds = searched.overlapping_from_reader(bytes, expected, error);
     differences.note(Form::Buffer, holds);
     let holds = match in_short_blocks(alloc, bytes) {
-        Ok(reader) => searched.overlapping_from_buf_reader(reader, expected, error),
+        Ok(reader) => searched.overlapping_from_reader(reader, expected, error),
         Err(_) => false,
     };
     differences.note(Form::SlowReader, holds);
@@ -227,13 +206,16 @@ fn compare_no_suffix<S: Searched>(
     let expected = case.expected.as_slice();
     let bytes = case.bytes.as_slice();
     if by_blocks {
-        let holds = searched.no_suffix_from_reader(alloc, bytes, expected, error);
+        let holds = match in_blocks(alloc, bytes) {
+            Ok(reader) => searched.no_suffix_from_reader(reader, expected, error),
+            Err(_) => false,
+        };
         differences.note(Form::Reader, holds);
     }
-    let holds = searched.no_suffix_from_buf_reader(bytes, expected, error);
+    let holds = searched.no_suffix_from_reader(bytes, expected, error);
     differences.note(Form::Buffer, holds);
     let holds = match in_short_blocks(alloc, bytes) {
-        Ok(reader) => searched.no_suffix_from_buf_reader(reader, expected, error),
+        Ok(reader) => searched.no_suffix_from_reader(reader, expected, error),
         Err(_) => false,
     };
     differences.note(Form::SlowReader, holds);
@@ -260,13 +242,16 @@ fn compare_find<S: Searched>(
     let expected = case.expected.as_slice();
     let bytes = case.bytes.as_slice();
     if by_blocks {
-        let holds = searched.find_from_reader(alloc, bytes, expected, error);
+        let holds = match in_blocks(alloc, bytes) {
+            Ok(reader) => searched.find_from_reader(reader, expected, error),
+            Err(_) => false,
+        };
         differences.note(Form::Reader, holds);
     }
-    let holds = searched.find_from_buf_reader(bytes, expected, error);
+    let holds = searched.find_from_reader(bytes, expected, error);
     differences.note(Form::Buffer, holds);
     let holds = match in_short_blocks(alloc, bytes) {
-        Ok(reader) => searched.find_from_buf_reader(reader, expected, error),
+        Ok(reader) => searched.find_from_reader(reader, expected, error),
         Err(_) => false,
     };
     differences.note(Form::SlowReader, holds);

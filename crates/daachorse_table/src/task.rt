@@ -10,7 +10,7 @@ use crate::report::{Differences, Form, Stop};
 use crate::row::{Call, Count, Finish, Pattern, Row, Search, Texts, Way, kind_of, patterns_of};
 use crate::searched::{Searched, compare_search, error_of, in_short_blocks, leave_search};
 use crate::text::{expand, number_of, small_number_of};
-use daachorse::MatchKind;
+use daachorse::{MatchKind, in_blocks};
 use daachorse_model::slow::Width;
 use std::alloc::Global;
 
@@ -474,13 +474,16 @@ fn compare_read_streams<S: Automaton>(
     let error = error_of(case, S::width());
     let bytes = case.bytes.as_slice();
     if by_blocks {
-        let holds = automaton.streams_from_reader(alloc, bytes, &case.expected, error);
+        let holds = match in_blocks(alloc, bytes) {
+            Ok(reader) => automaton.streams_from_reader(alloc, reader, &case.expected, error),
+            Err(error) => Err(error),
+        };
         differences.note(Form::Reader, holds.unwrap_or(false));
     }
-    let holds = automaton.streams_from_buf_reader(alloc, bytes, &case.expected, error);
+    let holds = automaton.streams_from_reader(alloc, bytes, &case.expected, error);
     differences.note(Form::Buffer, holds.unwrap_or(false));
     let holds = match in_short_blocks(alloc, bytes) {
-        Ok(reader) => automaton.streams_from_buf_reader(alloc, reader, &case.expected, error),
+        Ok(reader) => automaton.streams_from_reader(alloc, reader, &case.expected, error),
         Err(error) => Err(error),
     };
     differences.note(Form::SlowReader, holds.unwrap_or(false));

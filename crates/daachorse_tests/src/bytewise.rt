@@ -3,7 +3,7 @@
 use crate::automata::{Automaton, BUILT, Bytewise, PATVALS, Plainly, Way, given_back};
 use crate::finding::{Found, are_listed, are_read};
 use crate::writers::{bracket, instead, write_bracketed};
-use daachorse::{DoubleArrayAhoCorasick, DoubleArrayAhoCorasickBuilder, Result};
+use daachorse::{DoubleArrayAhoCorasick, DoubleArrayAhoCorasickBuilder, Result, in_blocks};
 use std::alloc::{AllocError, Allocator};
 use std::io::{self, ErrorKind, Read, Write};
 
@@ -106,7 +106,7 @@ impl<A: Allocator + Copy> Automaton for Bytewise<A> {
         if !self.match_kind().is_standard() {
             return Ok(false);
         }
-        let items = self.find_overlapping_iter_from_reader(alloc, reader)?;
+        let items = self.find_overlapping_iter_from_reader(in_blocks(alloc, reader)?);
         Ok(are_read(items, expected, error))
     }
 
@@ -121,7 +121,8 @@ impl<A: Allocator + Copy> Automaton for Bytewise<A> {
             return Ok(false);
         }
         let marks = self.stream_marks(alloc)?;
-        let items = self.leftmost_stream_from_reader(alloc, &marks, reader)?;
+        let blocks = in_blocks(alloc, reader)?;
+        let items = self.leftmost_stream_from_reader(alloc, &marks, blocks)?;
         Ok(are_read(items, expected, error))
     }
 

@@ -3,7 +3,9 @@
 use crate::automata::{Automaton, BUILT, Charwise, PATTERNS, PATVALS, Plainly, Way, given_back};
 use crate::finding::{Found, are_listed, are_read};
 use crate::writers::{bracket_text, instead_of_text, write_bracketed};
-use daachorse::{CharwiseDoubleArrayAhoCorasick, CharwiseDoubleArrayAhoCorasickBuilder, Result};
+use daachorse::{
+    CharwiseDoubleArrayAhoCorasick, CharwiseDoubleArrayAhoCorasickBuilder, Result, in_blocks,
+};
 use std::alloc::Allocator;
 use std::io::{self, ErrorKind, Read, Write};
 
@@ -93,7 +95,7 @@ impl<A: Allocator + Copy> Automaton for Charwise<A> {
         if !self.match_kind().is_standard() {
             return Ok(false);
         }
-        let items = self.find_overlapping_iter_from_reader(alloc, reader)?;
+        let items = self.find_overlapping_iter_from_reader(in_blocks(alloc, reader)?);
         Ok(are_read(items, expected, error))
     }
 
@@ -108,7 +110,8 @@ impl<A: Allocator + Copy> Automaton for Charwise<A> {
             return Ok(false);
         }
         let marks = self.stream_marks(alloc)?;
-        let items = self.leftmost_stream_from_reader(alloc, &marks, reader)?;
+        let blocks = in_blocks(alloc, reader)?;
+        let items = self.leftmost_stream_from_reader(alloc, &marks, blocks)?;
         Ok(are_read(items, expected, error))
     }
 

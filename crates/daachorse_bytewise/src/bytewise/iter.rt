@@ -17,7 +17,7 @@ use daachorse_search::overlapping::{NoSuffixWalk, OverlappingWalk};
 use daachorse_search::reader::ReadBytes;
 use daachorse_search::{find_stepper, overlapping_stepper};
 use daachorse_streams::leftmost_from_reader::LeftmostFromReader;
-use daachorse_streams::leftmost_stream;
+use daachorse_streams::{by_kind, leftmost_stream};
 use std::alloc::Global;
 
 /// The iterator of `find_iter`: non-overlapping matches in a slice, by earliest end.
@@ -93,6 +93,10 @@ pub type LeftmostFindIterator<'a, V, A = Global, S = Leftmost<'a, V>> = Leftmost
     haystack::Bytes<'a>,
     Skipping<'a, A>,
 >;
+
+/// The iterator of `matches_by_kind`: the matches of the search that the automaton's kind names.
+pub type MatchesByKind<'a, V, A = Global, S = Standard<'a, V>, L = Leftmost<'a, V>> =
+    by_kind::MatchesByKind<u8, V, FindWalk<V, S>, L, haystack::Bytes<'a>, Skipping<'a, A>>;
 
 /// The iterator of `leftmost_stream_from_reader`: leftmost matches in what a reader gives.
 pub type LeftmostReaderIterator<'a, R, V, B = Global, A = Global, S = Leftmost<'a, V>> =

@@ -24,7 +24,7 @@ impl<V: Copy, A: Allocator> DoubleArrayAhoCorasick<V, A> {
     pub fn get<'a>(&'a self, text: &[u8]) -> ValueIterator<'a, V>
         ensures { result ≡ dictionary_of self.entry.now (as_read self.entry.now.folds text.now) }
     {
-        values_of(&self.states, Bytes::new(text, self.folds))
+        values_of(&self.searched.states, Bytes::new(text, self.searched.folds))
     }
 
     /// Returns whether `text` is a pattern.
@@ -40,7 +40,7 @@ impl<V: Copy, A: Allocator> DoubleArrayAhoCorasick<V, A> {
     pub fn longest_prefix(&self, text: &[u8]) -> Option<Match<V>>
         ensures { result ≡ longest_prefix byte_width (dictionary_of self.now) (as_read self.now.folds text.now) }
     {
-        longest_prefix(&self.states, Bytes::new(text, self.folds))
+        longest_prefix(&self.searched.states, Bytes::new(text, self.searched.folds))
     }
 
     /// Finds each pattern that begins `text`, the shortest first, equal ones in order of
@@ -50,6 +50,6 @@ impl<V: Copy, A: Allocator> DoubleArrayAhoCorasick<V, A> {
     pub fn common_prefixes<'a>(&'a self, text: &'a [u8]) -> CommonPrefixIterator<'a, V, A>
         ensures { result ≡ common_prefixes byte_width (dictionary_of self.entry.now) (as_read self.entry.now.folds text.entry.now) }
     {
-        CommonPrefixes::new(&self.states, Bytes::new(text, self.folds))
+        CommonPrefixes::new(&self.searched.states, Bytes::new(text, self.searched.folds))
     }
 }

@@ -8,36 +8,38 @@ ghost use Rattle.daachorse_model.specs.Units.{byte_width};
 ghost use Rattle.daachorse_replacing.specs.ByKind.{non_overlapping};
 ghost use Rattle.daachorse_replacing.specs.Replaced.{AppendsBeginning, OfReplaced, OfReplacedSoFar};
 ghost use Rattle.daachorse_replacing.specs.ReplacedWith.{IsReplaced, IsReplacedSoFar};
-ghost use Rattle.daachorse_bytewise.specs.Automata.{dictionary_of, kind_of};
 
-use super::{Accelerated, DoubleArrayAhoCorasick};
+use super::AhoCorasick;
 use daachorse_core::Match;
 use daachorse_core::errors::Result;
 use daachorse_replacing::appending::{Appending, ToWriter};
 use daachorse_replacing::replacing::{replace, replace_with};
+use daachorse_streams::searched::Lends;
 use std::alloc::Allocator;
 use std::io::{self, Write};
 
-impl<V: Copy, A: Allocator> DoubleArrayAhoCorasick<V, A> {
+impl<S: Drop> AhoCorasick<S> {
     /// Returns the haystack with each match replaced by what `replacement` returns for it.
     ///
     /// `replacement` also gets the part of the haystack that matched. The matches are those of
     /// [`Self::find_iter`] for [`MatchKind::Standard`](daachorse_core::MatchKind::Standard), and of
     /// [`Self::leftmost_find_iter`] for another kind. Of `ab` and `b`, both replaced by `-`, `abxb`
     /// becomes `-x-`. The rest keeps its case in any search. Fails only if an allocation fails.
-    pub fn replace_all<'h, F: Fn(Match<V>, &'h [u8]) -> &'h [u8] + Drop, B: Allocator>(
-        &self,
+    pub fn replace_all<'a, F: Fn(Match<S::Value>, &'a [u8]) -> &'a [u8] + Drop, B: Allocator>(
+        &'a self,
         alloc: B,
-        haystack: &'h [u8],
+        haystack: &'a [u8],
         replacement: F,
     ) -> Result<Vec<u8, B>>
+    where
+        S: Lends<'a, u8>,
         requires callable { F.IsAlwaysCallable replacement }
-        ensures ok { IfOk result (λ v. OfReplaced (λ s. s.now) haystack.now (F.post replacement) (non_overlapping (kind_of self.now) byte_width (dictionary_of self.now) (as_read self.now.folds haystack.now))
+        ensures ok { IfOk result (λ v. OfReplaced (λ s. s.now) haystack.entry.now (F.post replacement) (non_overlapping (S.kind self.entry.now) byte_width (S.dictionary self.entry.now) (as_read (S.folds self.entry.now) haystack.entry.now))
             (λ text. v.items ≡ text)) }
         ensures err { IfErr result IsOutOfMemory }
     {
         let mut out = Vec::new(alloc);
-        let matches = self.non_overlapping(haystack);
+        let matches = self.matches_by_kind(haystack);
         replace::<_, _, _, F, _, Vec<u8, B>>(haystack, matches, &mut out, replacement)?;
         Ok(out)
     }
@@ -46,19 +48,21 @@ impl<V: Copy, A: Allocator> DoubleArrayAhoCorasick<V, A> {
     ///
     /// Fails with the writer's first error, or with [`WriteZero`](std::io::ErrorKind::WriteZero) if
     /// it takes none of some bytes, after a prefix was written.
-    pub fn replace_all_into<'h, F: Fn(Match<V>, &'h [u8]) -> &'h [u8] + Drop, W: Write>(
-        &self,
-        haystack: &'h [u8],
+    pub fn replace_all_into<'a, F: Fn(Match<S::Value>, &'a [u8]) -> &'a [u8] + Drop, W: Write>(
+        &'a self,
+        haystack: &'a [u8],
         replacement: F,
         out: &mut W,
     ) -> io::Result<()>
+    where
+        S: Lends<'a, u8>,
         requires callable { F.IsAlwaysCallable replacement }
-        ensures whole { OnOk result (OfReplaced (λ s. s.now) haystack.now (F.post replacement) (non_overlapping (kind_of self.now) byte_width (dictionary_of self.now) (as_read self.now.folds haystack.now))
+        ensures whole { OnOk result (OfReplaced (λ s. s.now) haystack.entry.now (F.post replacement) (non_overlapping (S.kind self.entry.now) byte_width (S.dictionary self.entry.now) (as_read (S.folds self.entry.now) haystack.entry.now))
             (Appends (W.contents out.old) (W.contents out.new))) }
-        ensures beginning { OnErr result (OfReplacedSoFar (λ s. s.now) haystack.now (F.post replacement) (non_overlapping (kind_of self.now) byte_width (dictionary_of self.now) (as_read self.now.folds haystack.now))
+        ensures beginning { OnErr result (OfReplacedSoFar (λ s. s.now) haystack.entry.now (F.post replacement) (non_overlapping (S.kind self.entry.now) byte_width (S.dictionary self.entry.now) (as_read (S.folds self.entry.now) haystack.entry.now))
             (AppendsBeginning (W.contents out.old) (W.contents out.new))) }
     {
-        let matches = self.non_overlapping(haystack);
+        let matches = self.matches_by_kind(haystack);
         replace::<_, _, _, F, W, ToWriter>(haystack, matches, out, replacement)
     }
 
@@ -69,95 +73,34 @@ impl<V: Copy, A: Allocator> DoubleArrayAhoCorasick<V, A> {
     /// the output took what comes before it. Of `ab` and `b`, each replaced by its length, `abxb`
     /// becomes `2x1`.
     pub fn replace_all_with<
-        'h,
-        O: Appending<&'h [u8], O>,
-        F: FnMut(Match<V>, &'h [u8], &mut O) -> Result<(), O::Error> + Drop,
-    >(&self, haystack: &'h [u8], out: &mut O, write: F) -> Result<(), O::Error>
+        'a,
+        O: Appending<&'a [u8], O>,
+        F: FnMut(Match<S::Value>, &'a [u8], &mut O) -> Result<(), O::Error> + Drop,
+    >(&'a self, haystack: &'a [u8], out: &mut O, write: F) -> Result<(), O::Error>
+    where
+        S: Lends<'a, u8>,
         requires callable { F.IsAlwaysCallable write }
-        ensures whole { OnOk result (IsReplaced (λ s. s.now) O.taken haystack.now F.step (non_overlapping (kind_of self.now) byte_width (dictionary_of self.now) (as_read self.now.folds haystack.now)) write out.old out.new) }
-        ensures beginning { OnErr result (IsReplacedSoFar (λ s. s.now) O.taken haystack.now F.step (non_overlapping (kind_of self.now) byte_width (dictionary_of self.now) (as_read self.now.folds haystack.now)) write out.old out.new) }
+        ensures whole { OnOk result (IsReplaced (λ s. s.now) O.taken haystack.entry.now F.step (non_overlapping (S.kind self.entry.now) byte_width (S.dictionary self.entry.now) (as_read (S.folds self.entry.now) haystack.entry.now)) write out.old out.new) }
+        ensures beginning { OnErr result (IsReplacedSoFar (λ s. s.now) O.taken haystack.entry.now F.step (non_overlapping (S.kind self.entry.now) byte_width (S.dictionary self.entry.now) (as_read (S.folds self.entry.now) haystack.entry.now)) write out.old out.new) }
     {
-        let matches = self.non_overlapping(haystack);
+        let matches = self.matches_by_kind(haystack);
         replace_with::<_, _, _, O, O, F>(haystack, matches, out, write)
     }
 
     /// Does what [`Self::replace_all_with`] does with a writer, in as many writes as it needs. The
     /// writer is not flushed.
     pub fn replace_all_into_with<
-        'h,
+        'a,
         W: Write,
-        F: FnMut(Match<V>, &'h [u8], &mut W) -> io::Result<()> + Drop,
-    >(&self, haystack: &'h [u8], out: &mut W, write: F) -> io::Result<()>
+        F: FnMut(Match<S::Value>, &'a [u8], &mut W) -> io::Result<()> + Drop,
+    >(&'a self, haystack: &'a [u8], out: &mut W, write: F) -> io::Result<()>
+    where
+        S: Lends<'a, u8>,
         requires callable { F.IsAlwaysCallable write }
-        ensures whole { OnOk result (IsReplaced (λ s. s.now) W.contents haystack.now F.step (non_overlapping (kind_of self.now) byte_width (dictionary_of self.now) (as_read self.now.folds haystack.now)) write out.old out.new) }
-        ensures beginning { OnErr result (IsReplacedSoFar (λ s. s.now) W.contents haystack.now F.step (non_overlapping (kind_of self.now) byte_width (dictionary_of self.now) (as_read self.now.folds haystack.now)) write out.old out.new) }
+        ensures whole { OnOk result (IsReplaced (λ s. s.now) W.contents haystack.entry.now F.step (non_overlapping (S.kind self.entry.now) byte_width (S.dictionary self.entry.now) (as_read (S.folds self.entry.now) haystack.entry.now)) write out.old out.new) }
+        ensures beginning { OnErr result (IsReplacedSoFar (λ s. s.now) W.contents haystack.entry.now F.step (non_overlapping (S.kind self.entry.now) byte_width (S.dictionary self.entry.now) (as_read (S.folds self.entry.now) haystack.entry.now)) write out.old out.new) }
     {
-        let matches = self.non_overlapping(haystack);
-        replace_with::<_, _, _, W, ToWriter, F>(haystack, matches, out, write)
-    }
-}
-
-impl<V: Copy, A: Allocator> Accelerated<V, A> {
-    /// As [`DoubleArrayAhoCorasick::replace_all`], over rows.
-    pub fn replace_all<'h, F: Fn(Match<V>, &'h [u8]) -> &'h [u8] + Drop, B: Allocator>(
-        &self,
-        alloc: B,
-        haystack: &'h [u8],
-        replacement: F,
-    ) -> Result<Vec<u8, B>>
-        requires callable { F.IsAlwaysCallable replacement }
-        ensures ok { IfOk result (λ v. OfReplaced (λ s. s.now) haystack.now (F.post replacement) (non_overlapping (kind_of self.now.automaton) byte_width (dictionary_of self.now.automaton) (as_read self.now.automaton.folds haystack.now))
-            (λ text. v.items ≡ text)) }
-        ensures err { IfErr result IsOutOfMemory }
-    {
-        let mut out = Vec::new(alloc);
-        let matches = self.non_overlapping(haystack);
-        replace::<_, _, _, F, _, Vec<u8, B>>(haystack, matches, &mut out, replacement)?;
-        Ok(out)
-    }
-
-    /// As [`DoubleArrayAhoCorasick::replace_all_into`], over rows.
-    pub fn replace_all_into<'h, F: Fn(Match<V>, &'h [u8]) -> &'h [u8] + Drop, W: Write>(
-        &self,
-        haystack: &'h [u8],
-        replacement: F,
-        out: &mut W,
-    ) -> io::Result<()>
-        requires callable { F.IsAlwaysCallable replacement }
-        ensures whole { OnOk result (OfReplaced (λ s. s.now) haystack.now (F.post replacement) (non_overlapping (kind_of self.now.automaton) byte_width (dictionary_of self.now.automaton) (as_read self.now.automaton.folds haystack.now))
-            (Appends (W.contents out.old) (W.contents out.new))) }
-        ensures beginning { OnErr result (OfReplacedSoFar (λ s. s.now) haystack.now (F.post replacement) (non_overlapping (kind_of self.now.automaton) byte_width (dictionary_of self.now.automaton) (as_read self.now.automaton.folds haystack.now))
-            (AppendsBeginning (W.contents out.old) (W.contents out.new))) }
-    {
-        let matches = self.non_overlapping(haystack);
-        replace::<_, _, _, F, W, ToWriter>(haystack, matches, out, replacement)
-    }
-
-    /// As [`DoubleArrayAhoCorasick::replace_all_with`], over rows.
-    pub fn replace_all_with<
-        'h,
-        O: Appending<&'h [u8], O>,
-        F: FnMut(Match<V>, &'h [u8], &mut O) -> Result<(), O::Error> + Drop,
-    >(&self, haystack: &'h [u8], out: &mut O, write: F) -> Result<(), O::Error>
-        requires callable { F.IsAlwaysCallable write }
-        ensures whole { OnOk result (IsReplaced (λ s. s.now) O.taken haystack.now F.step (non_overlapping (kind_of self.now.automaton) byte_width (dictionary_of self.now.automaton) (as_read self.now.automaton.folds haystack.now)) write out.old out.new) }
-        ensures beginning { OnErr result (IsReplacedSoFar (λ s. s.now) O.taken haystack.now F.step (non_overlapping (kind_of self.now.automaton) byte_width (dictionary_of self.now.automaton) (as_read self.now.automaton.folds haystack.now)) write out.old out.new) }
-    {
-        let matches = self.non_overlapping(haystack);
-        replace_with::<_, _, _, O, O, F>(haystack, matches, out, write)
-    }
-
-    /// As [`DoubleArrayAhoCorasick::replace_all_into_with`], over rows.
-    pub fn replace_all_into_with<
-        'h,
-        W: Write,
-        F: FnMut(Match<V>, &'h [u8], &mut W) -> io::Result<()> + Drop,
-    >(&self, haystack: &'h [u8], out: &mut W, write: F) -> io::Result<()>
-        requires callable { F.IsAlwaysCallable write }
-        ensures whole { OnOk result (IsReplaced (λ s. s.now) W.contents haystack.now F.step (non_overlapping (kind_of self.now.automaton) byte_width (dictionary_of self.now.automaton) (as_read self.now.automaton.folds haystack.now)) write out.old out.new) }
-        ensures beginning { OnErr result (IsReplacedSoFar (λ s. s.now) W.contents haystack.now F.step (non_overlapping (kind_of self.now.automaton) byte_width (dictionary_of self.now.automaton) (as_read self.now.automaton.folds haystack.now)) write out.old out.new) }
-    {
-        let matches = self.non_overlapping(haystack);
+        let matches = self.matches_by_kind(haystack);
         replace_with::<_, _, _, W, ToWriter, F>(haystack, matches, out, write)
     }
 }

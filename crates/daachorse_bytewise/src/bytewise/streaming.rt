@@ -65,8 +65,8 @@ impl<V: Copy, A: Allocator + Copy> DoubleArrayAhoCorasick<V, A> {
         let longest = self.longest_pattern()?;
         let source = ReadBytes::new(in_blocks(alloc, reader)?);
         replace_from(
-            self.states.standard(),
-            self.folds,
+            self.searched.states.standard(),
+            self.searched.folds,
             source,
             longest,
             alloc,
@@ -87,13 +87,13 @@ impl<V: Copy, A: Allocator + Copy> DoubleArrayAhoCorasick<V, A> {
         ensures { ReplacesRead (λ s. s.now) O.contents F.step (λ byte. ⊤) (λ bytes. bytes) (R.remaining reader)
             (λ bytes. non_overlapping (kind_of self.now) byte_width (dictionary_of self.now) (as_read self.now.folds bytes)) (HasNoLonger byte_width (dictionary_of self.now)) result write out.old out.new }
     {
-        let marks = self.stream_marks(*self.depths.allocator())?;
+        let marks = self.stream_marks(*self.searched.depths.allocator())?;
         let source = ReadBytes::new(in_blocks(alloc, reader)?);
-        let states = self.states.leftmost();
+        let states = self.searched.states.leftmost();
         replace_leftmost_skipping(
             states,
             &marks,
-            self.folds,
+            self.searched.folds,
             source,
             self.skipping(),
             alloc,
@@ -107,7 +107,9 @@ impl<V: Copy, A: Allocator + Copy> DoubleArrayAhoCorasick<V, A> {
         ensures ok { IfOk result (IsLongest byte_width (dictionary_of self.now)) }
         ensures err { IfErr result IsOutOfMemory }
     {
-        self.states.longest(*self.depths.allocator())
+        self.searched
+            .states
+            .longest(*self.searched.depths.allocator())
     }
 }
 

@@ -20,7 +20,7 @@ use daachorse_search::overlapping::{NoSuffixWalk, OverlappingWalk};
 use daachorse_search::read_chars::ReadChars;
 use daachorse_search::{find_stepper, overlapping_stepper};
 use daachorse_streams::leftmost_from_reader::LeftmostFromReader;
-use daachorse_streams::leftmost_stream;
+use daachorse_streams::{by_kind, leftmost_stream};
 use std::alloc::Global;
 
 /// The iterator of `find_iter`: non-overlapping matches in a text, by earliest end.
@@ -92,6 +92,10 @@ pub type LeftmostFindIterator<'a, V, A = Global, S = Leftmost<'a, V>> = Leftmost
     Text<'a>,
     Skipping<'a, A>,
 >;
+
+/// The iterator of `matches_by_kind`: the matches of the search that the automaton's kind names.
+pub type MatchesByKind<'a, V, A = Global, S = Standard<'a, V>, L = Leftmost<'a, V>> =
+    by_kind::MatchesByKind<char, V, FindWalk<V, S>, L, Text<'a>, Skipping<'a, A>>;
 
 /// The iterator of `leftmost_stream_from_reader`: leftmost matches in what a reader gives.
 pub type LeftmostReaderIterator<'a, R, V, B = Global, A = Global, S = Leftmost<'a, V>> =

@@ -7,7 +7,7 @@ ghost use Rattle.daachorse_core.specs.Refusals.{IsOutOfMemory};
 ghost use Rattle.daachorse_model.specs.declared.MatchKind.TheVariants.{Standard};
 ghost use Rattle.daachorse_model.specs.Units.{char_width};
 ghost use Rattle.daachorse_charwise_states.specs.Valid.{sees};
-ghost use Rattle.daachorse_streams.specs.Marked.{BeginsLeftmostInBlocks, BeginsReadingLeftmost, BeginsStreaming, IsMarkedFor};
+ghost use Rattle.daachorse_streams.specs.Marked.{BeginsReadingLeftmost, BeginsStreaming, IsMarkedFor};
 ghost use Rattle.daachorse_streams.specs.Standings.{streamed_by};
 ghost use Rattle.daachorse_charwise.specs.Automata.{kind_of, states_of};
 ghost use Rattle.daachorse_charwise.specs.Standings.{IsLeftmostStandingIn};
@@ -16,13 +16,12 @@ use super::CharwiseDoubleArrayAhoCorasick;
 use super::iter::{LeftmostReaderIterator, LeftmostStream};
 use daachorse_core::errors::Result;
 use daachorse_search::read_chars::ReadChars;
-use daachorse_search::reader::in_blocks;
 use daachorse_streams::leftmost_from_reader::LeftmostFromReader;
 use daachorse_streams::leftmost_standing::LeftmostStanding;
 use daachorse_streams::leftmost_stream;
 use daachorse_streams::stream_marks::StreamMarks;
 use std::alloc::Allocator;
-use std::io::{self, BufRead, BufReader, Read};
+use std::io::{self, BufRead};
 
 impl<V: Copy, A: Allocator + Copy> CharwiseDoubleArrayAhoCorasick<V, A> {
     /// Makes what leftmost streams over this automaton share: a byte for each state, and the length
@@ -34,7 +33,7 @@ impl<V: Copy, A: Allocator + Copy> CharwiseDoubleArrayAhoCorasick<V, A> {
         ensures err { IfErr result IsOutOfMemory }
     {
         let longest = self.longest_pattern()?;
-        let children = self.states.child_marks(alloc)?;
+        let children = self.searched.states.child_marks(alloc)?;
         Ok(StreamMarks { children, longest })
     }
 }
@@ -60,8 +59,13 @@ impl<V: Copy, A: Allocator> CharwiseDoubleArrayAhoCorasick<V, A> {
         ensures ok { IfOk result (BeginsStreaming (states_of self.entry.now) self.entry.now.folds) }
         ensures err { IfErr result IsOutOfMemory }
     {
-        let states = self.states.leftmost();
-        let stream = leftmost_stream::LeftmostStream::new(alloc, states, marks, self.folds)?;
+        let states = self.searched.states.leftmost();
+        let stream = leftmost_stream::LeftmostStream::new(
+            alloc,
+            states,
+            marks,
+            self.searched.folds,
+        )?;
         Ok(stream)
     }
 
@@ -80,8 +84,8 @@ impl<V: Copy, A: Allocator> CharwiseDoubleArrayAhoCorasick<V, A> {
         requires stands { IsLeftmostStandingIn (states_of self.now) standing }
         ensures { result ≡ streamed_by char_width sees (states_of self.entry.now) self.entry.now.folds standing }
     {
-        let states = self.states.leftmost();
-        leftmost_stream::LeftmostStream::resume(states, marks, self.folds, standing)
+        let states = self.searched.states.leftmost();
+        leftmost_stream::LeftmostStream::resume(states, marks, self.searched.folds, standing)
     }
 
     /// Finds the matches of [`Self::leftmost_find_iter`] in what a reader gives, each as soon as it
@@ -93,7 +97,7 @@ impl<V: Copy, A: Allocator> CharwiseDoubleArrayAhoCorasick<V, A> {
     ///
     /// # Conditions
     /// As of [`Self::leftmost_stream`].
-    pub fn leftmost_stream_from_buf_reader<'a, R: BufRead + Drop, B: Allocator, C: Allocator>(
+    pub fn leftmost_stream_from_reader<'a, R: BufRead + Drop, B: Allocator, C: Allocator>(
         &'a self,
         alloc: B,
         marks: &'a StreamMarks<C>,
@@ -107,21 +111,5 @@ impl<V: Copy, A: Allocator> CharwiseDoubleArrayAhoCorasick<V, A> {
         let stream = self.leftmost_stream(alloc, marks)?;
         let source = ReadChars::new(reader);
         Ok(LeftmostFromReader::new(stream, source, self.skipping()))
-    }
-
-    /// As [`Self::leftmost_stream_from_buf_reader`], by blocks of 64 KiB.
-    pub fn leftmost_stream_from_reader<'a, R: Read + Drop, B: Allocator + Copy, C: Allocator>(
-        &'a self,
-        alloc: B,
-        marks: &'a StreamMarks<C>,
-        reader: R,
-    ) -> io::Result<LeftmostReaderIterator<'a, BufReader<R, B>, V, B, A>>
-        requires kind { kind_of self.now ≢ Standard }
-        requires marks { IsMarkedFor char_width (sees (states_of self.now)) marks.now }
-        ensures ok { IfOk result (BeginsLeftmostInBlocks R.remaining (states_of self.entry.now) reader self.entry.now.folds) }
-        ensures err { IfErr result (λ e. error_kind e ≡ OutOfMemory) }
-    {
-        let blocks = in_blocks(alloc, reader)?;
-        self.leftmost_stream_from_buf_reader(alloc, marks, blocks)
     }
 }

@@ -25,7 +25,7 @@ impl<V: Copy, A: Allocator> CharwiseDoubleArrayAhoCorasick<V, A> {
     pub fn get<'a>(&'a self, text: &str) -> ValueIterator<'a, V>
         ensures { result ≡ dictionary_of self.entry.now (as_read self.entry.now.folds (chars text.now)) }
     {
-        values_of(&self.states, Text::new(text, self.folds))
+        values_of(&self.searched.states, Text::new(text, self.searched.folds))
     }
 
     /// Returns whether `text` is a pattern.
@@ -41,7 +41,7 @@ impl<V: Copy, A: Allocator> CharwiseDoubleArrayAhoCorasick<V, A> {
     pub fn longest_prefix(&self, text: &str) -> Option<Match<V>>
         ensures { result ≡ longest_prefix char_width (dictionary_of self.now) (as_read self.now.folds (chars text.now)) }
     {
-        longest_prefix(&self.states, Text::new(text, self.folds))
+        longest_prefix(&self.searched.states, Text::new(text, self.searched.folds))
     }
 
     /// Finds each pattern that begins `text`, the shortest first, equal ones in order of
@@ -51,6 +51,6 @@ impl<V: Copy, A: Allocator> CharwiseDoubleArrayAhoCorasick<V, A> {
     pub fn common_prefixes<'a>(&'a self, text: &'a str) -> CommonPrefixIterator<'a, V, A>
         ensures { result ≡ common_prefixes char_width (dictionary_of self.entry.now) (as_read self.entry.now.folds (chars text.entry.now)) }
     {
-        CommonPrefixes::new(&self.states, Text::new(text, self.folds))
+        CommonPrefixes::new(&self.searched.states, Text::new(text, self.searched.folds))
     }
 }

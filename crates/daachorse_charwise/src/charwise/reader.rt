@@ -4,237 +4,82 @@
 //! UTF-8, or a place would exceed a `usize`, that error comes after the matches before it, and then
 //! nothing. A read that was interrupted is tried again.
 
-ghost use Rattle.std.specs.Prelude.{◌≡◌, [], IfErr, IfOk, take};
-ghost use Rattle.std.specs.IoError.{error_kind};
-ghost use Rattle.std.specs.declared.io.ErrorKind.TheVariants.{OutOfMemory};
+ghost use Rattle.std.specs.Prelude.{◌≡◌, [], take};
 ghost use Rattle.std.specs.Option.{option_to_list};
 ghost use Rattle.daachorse_model.specs.declared.MatchKind.TheVariants.{Standard};
 ghost use Rattle.daachorse_model.specs.Matches.{matches_after, standard_after};
 ghost use Rattle.daachorse_model.specs.Units.{char_width};
-ghost use Rattle.daachorse_search.specs.Beginnings.{BeginsInBlocks, BeginsReading};
-ghost use Rattle.daachorse_charwise.specs.Accelerated.{rowed_states};
-ghost use Rattle.daachorse_charwise.specs.Automata.{dictionary_of, kind_of, states_of};
+ghost use Rattle.daachorse_search.specs.Beginnings.{BeginsReading};
 
-use crate::charwise::CharwiseDoubleArrayAhoCorasick;
-use crate::charwise::accelerated::{Accelerated, RowedStandard};
-use crate::charwise::iter::{
+use super::AhoCorasick;
+use super::iter::{
     FindOverlappingNoSuffixReaderIterator, FindOverlappingReaderIterator, FindReaderIterator,
 };
 use daachorse_search::find::FindWalk;
 use daachorse_search::matches_from_reader::MatchesFromReader;
 use daachorse_search::overlapping::{NoSuffixWalk, OverlappingWalk};
 use daachorse_search::read_chars::ReadChars;
-use daachorse_search::reader::in_blocks;
-use std::alloc::Allocator;
-use std::io::{self, BufRead, BufReader, Read};
+use daachorse_streams::searched::Lends;
+use std::io::BufRead;
 
-impl<V: Copy, A: Allocator> CharwiseDoubleArrayAhoCorasick<V, A> {
+impl<S: Drop> AhoCorasick<S> {
     /// Finds the matches of [`Self::find_iter`] in what a reader gives, and takes no memory. Places
     /// count from where the reader stands.
     #[inline(always)]
-    #[tactic(auto, using(daachorse_charwise_states::proofs::DeadLaws::alive))]
-    pub fn find_iter_from_buf_reader<'a, R: BufRead + Drop>(
+    pub fn find_iter_from_reader<'a, R: BufRead + Drop>(
         &'a self,
         reader: R,
-    ) -> FindReaderIterator<'a, R, V>
-        requires { kind_of self.now ≡ Standard }
-        ensures { BeginsReading (states_of self.entry.now) reader
-            (option_to_list (standard_after char_width (dictionary_of self.entry.now) [])) self.entry.now.folds result }
+    ) -> FindReaderIterator<'a, R, S::Value, S::Standard>
+    where
+        S: Lends<'a, char>,
+        requires { S.kind self.now ≡ Standard }
+        ensures { BeginsReading (S.states self.entry.now) reader
+            (option_to_list (standard_after char_width (S.dictionary self.entry.now) [])) (S.folds self.entry.now) result }
     {
         MatchesFromReader::new(
-            FindWalk::new(self.states.standard()),
+            FindWalk::new(self.searched.standard()),
             ReadChars::new(reader),
-            self.folds,
+            self.searched.is_ascii_case_insensitive(),
         )
-    }
-
-    /// As [`Self::find_iter_from_buf_reader`], by blocks of 64 KiB, for which it allocates once.
-    #[inline(always)]
-    pub fn find_iter_from_reader<'a, R: Read + Drop, B: Allocator>(
-        &'a self,
-        alloc: B,
-        reader: R,
-    ) -> io::Result<FindReaderIterator<'a, BufReader<R, B>, V>>
-        requires { kind_of self.now ≡ Standard }
-        ensures ok { IfOk result (BeginsInBlocks R.remaining (states_of self.entry.now) reader
-            (option_to_list (standard_after char_width (dictionary_of self.entry.now) [])) self.entry.now.folds) }
-        ensures err { IfErr result (λ e. error_kind e ≡ OutOfMemory) }
-    {
-        Ok(self.find_iter_from_buf_reader(in_blocks(alloc, reader)?))
     }
 
     /// Finds the matches of [`Self::find_overlapping_iter`] in what a reader gives, and takes no
     /// memory. Places count from where the reader stands.
     #[inline(always)]
-    #[tactic(auto, using(daachorse_charwise_states::proofs::DeadLaws::alive))]
-    pub fn find_overlapping_iter_from_buf_reader<'a, R: BufRead + Drop>(
+    pub fn find_overlapping_iter_from_reader<'a, R: BufRead + Drop>(
         &'a self,
         reader: R,
-    ) -> FindOverlappingReaderIterator<'a, R, V>
-        requires { kind_of self.now ≡ Standard }
-        ensures { BeginsReading (states_of self.entry.now) reader
-            (matches_after char_width (dictionary_of self.entry.now) []) self.entry.now.folds result }
+    ) -> FindOverlappingReaderIterator<'a, R, S::Value, S::Standard>
+    where
+        S: Lends<'a, char>,
+        requires { S.kind self.now ≡ Standard }
+        ensures { BeginsReading (S.states self.entry.now) reader
+            (matches_after char_width (S.dictionary self.entry.now) []) (S.folds self.entry.now) result }
     {
         MatchesFromReader::new(
-            OverlappingWalk::new(self.states.standard()),
+            OverlappingWalk::new(self.searched.standard()),
             ReadChars::new(reader),
-            self.folds,
+            self.searched.is_ascii_case_insensitive(),
         )
-    }
-
-    /// As [`Self::find_overlapping_iter_from_buf_reader`], by blocks of 64 KiB, for which it
-    /// allocates once.
-    #[inline(always)]
-    pub fn find_overlapping_iter_from_reader<'a, R: Read + Drop, B: Allocator>(
-        &'a self,
-        alloc: B,
-        reader: R,
-    ) -> io::Result<FindOverlappingReaderIterator<'a, BufReader<R, B>, V>>
-        requires { kind_of self.now ≡ Standard }
-        ensures ok { IfOk result (BeginsInBlocks R.remaining (states_of self.entry.now) reader
-            (matches_after char_width (dictionary_of self.entry.now) []) self.entry.now.folds) }
-        ensures err { IfErr result (λ e. error_kind e ≡ OutOfMemory) }
-    {
-        Ok(self.find_overlapping_iter_from_buf_reader(in_blocks(alloc, reader)?))
     }
 
     /// Finds the matches of [`Self::find_overlapping_no_suffix_iter`] in what a reader gives, and
     /// takes no memory. Places count from where the reader stands.
     #[inline(always)]
-    #[tactic(auto, using(daachorse_charwise_states::proofs::DeadLaws::alive))]
-    pub fn find_overlapping_no_suffix_iter_from_buf_reader<'a, R: BufRead + Drop>(
+    pub fn find_overlapping_no_suffix_iter_from_reader<'a, R: BufRead + Drop>(
         &'a self,
         reader: R,
-    ) -> FindOverlappingNoSuffixReaderIterator<'a, R, V>
-        requires { kind_of self.now ≡ Standard }
-        ensures { BeginsReading (states_of self.entry.now) reader
-            (take 1 (matches_after char_width (dictionary_of self.entry.now) [])) self.entry.now.folds result }
+    ) -> FindOverlappingNoSuffixReaderIterator<'a, R, S::Value, S::Standard>
+    where
+        S: Lends<'a, char>,
+        requires { S.kind self.now ≡ Standard }
+        ensures { BeginsReading (S.states self.entry.now) reader
+            (take 1 (matches_after char_width (S.dictionary self.entry.now) [])) (S.folds self.entry.now) result }
     {
         MatchesFromReader::new(
-            NoSuffixWalk::new(self.states.standard()),
+            NoSuffixWalk::new(self.searched.standard()),
             ReadChars::new(reader),
-            self.folds,
+            self.searched.is_ascii_case_insensitive(),
         )
-    }
-
-    /// As [`Self::find_overlapping_no_suffix_iter_from_buf_reader`], by blocks of 64 KiB, for which
-    /// it allocates once.
-    #[inline(always)]
-    pub fn find_overlapping_no_suffix_iter_from_reader<'a, R: Read + Drop, B: Allocator>(
-        &'a self,
-        alloc: B,
-        reader: R,
-    ) -> io::Result<FindOverlappingNoSuffixReaderIterator<'a, BufReader<R, B>, V>>
-        requires { kind_of self.now ≡ Standard }
-        ensures ok { IfOk result (BeginsInBlocks R.remaining (states_of self.entry.now) reader
-            (take 1 (matches_after char_width (dictionary_of self.entry.now) [])) self.entry.now.folds) }
-        ensures err { IfErr result (λ e. error_kind e ≡ OutOfMemory) }
-    {
-        Ok(self.find_overlapping_no_suffix_iter_from_buf_reader(in_blocks(alloc, reader)?))
-    }
-}
-
-impl<V: Copy, A: Allocator> Accelerated<V, A> {
-    /// As [`CharwiseDoubleArrayAhoCorasick::find_iter_from_buf_reader`], over rows.
-    #[inline(always)]
-    #[tactic(auto, using(daachorse_charwise_states::proofs::DeadLaws::alive))]
-    pub fn find_iter_from_buf_reader<'s, R: BufRead + Drop>(
-        &'s self,
-        reader: R,
-    ) -> FindReaderIterator<'s, R, V, RowedStandard<'s, V>>
-        requires { kind_of self.now.automaton ≡ Standard }
-        ensures { BeginsReading (rowed_states self.entry.now) reader
-            (option_to_list (standard_after char_width (dictionary_of self.entry.now.automaton) [])) self.entry.now.automaton.folds result }
-    {
-        MatchesFromReader::new(
-            FindWalk::new(self.standard()),
-            ReadChars::new(reader),
-            self.automaton().is_ascii_case_insensitive(),
-        )
-    }
-
-    /// As [`CharwiseDoubleArrayAhoCorasick::find_iter_from_reader`], over rows.
-    #[inline(always)]
-    pub fn find_iter_from_reader<'s, R: Read + Drop, B: Allocator>(
-        &'s self,
-        alloc: B,
-        reader: R,
-    ) -> io::Result<FindReaderIterator<'s, BufReader<R, B>, V, RowedStandard<'s, V>>>
-        requires { kind_of self.now.automaton ≡ Standard }
-        ensures ok { IfOk result (BeginsInBlocks R.remaining (rowed_states self.entry.now) reader
-            (option_to_list (standard_after char_width (dictionary_of self.entry.now.automaton) [])) self.entry.now.automaton.folds) }
-        ensures err { IfErr result (λ e. error_kind e ≡ OutOfMemory) }
-    {
-        Ok(self.find_iter_from_buf_reader(in_blocks(alloc, reader)?))
-    }
-
-    /// As [`CharwiseDoubleArrayAhoCorasick::find_overlapping_iter_from_buf_reader`], over rows.
-    #[inline(always)]
-    #[tactic(auto, using(daachorse_charwise_states::proofs::DeadLaws::alive))]
-    pub fn find_overlapping_iter_from_buf_reader<'s, R: BufRead + Drop>(
-        &'s self,
-        reader: R,
-    ) -> FindOverlappingReaderIterator<'s, R, V, RowedStandard<'s, V>>
-        requires { kind_of self.now.automaton ≡ Standard }
-        ensures { BeginsReading (rowed_states self.entry.now) reader
-            (matches_after char_width (dictionary_of self.entry.now.automaton) []) self.entry.now.automaton.folds result }
-    {
-        MatchesFromReader::new(
-            OverlappingWalk::new(self.standard()),
-            ReadChars::new(reader),
-            self.automaton().is_ascii_case_insensitive(),
-        )
-    }
-
-    /// As [`CharwiseDoubleArrayAhoCorasick::find_overlapping_iter_from_reader`], over rows.
-    #[inline(always)]
-    pub fn find_overlapping_iter_from_reader<'s, R: Read + Drop, B: Allocator>(
-        &'s self,
-        alloc: B,
-        reader: R,
-    ) -> io::Result<FindOverlappingReaderIterator<'s, BufReader<R, B>, V, RowedStandard<'s, V>>>
-        requires { kind_of self.now.automaton ≡ Standard }
-        ensures ok { IfOk result (BeginsInBlocks R.remaining (rowed_states self.entry.now) reader
-            (matches_after char_width (dictionary_of self.entry.now.automaton) []) self.entry.now.automaton.folds) }
-        ensures err { IfErr result (λ e. error_kind e ≡ OutOfMemory) }
-    {
-        Ok(self.find_overlapping_iter_from_buf_reader(in_blocks(alloc, reader)?))
-    }
-
-    /// As [`CharwiseDoubleArrayAhoCorasick::find_overlapping_no_suffix_iter_from_buf_reader`], over
-    /// rows.
-    #[inline(always)]
-    #[tactic(auto, using(daachorse_charwise_states::proofs::DeadLaws::alive))]
-    pub fn find_overlapping_no_suffix_iter_from_buf_reader<'s, R: BufRead + Drop>(
-        &'s self,
-        reader: R,
-    ) -> FindOverlappingNoSuffixReaderIterator<'s, R, V, RowedStandard<'s, V>>
-        requires { kind_of self.now.automaton ≡ Standard }
-        ensures { BeginsReading (rowed_states self.entry.now) reader
-            (take 1 (matches_after char_width (dictionary_of self.entry.now.automaton) [])) self.entry.now.automaton.folds result }
-    {
-        MatchesFromReader::new(
-            NoSuffixWalk::new(self.standard()),
-            ReadChars::new(reader),
-            self.automaton().is_ascii_case_insensitive(),
-        )
-    }
-
-    /// As [`CharwiseDoubleArrayAhoCorasick::find_overlapping_no_suffix_iter_from_reader`], over
-    /// rows.
-    #[inline(always)]
-    pub fn find_overlapping_no_suffix_iter_from_reader<'s, R: Read + Drop, B: Allocator>(
-        &'s self,
-        alloc: B,
-        reader: R,
-    ) -> io::Result<
-        FindOverlappingNoSuffixReaderIterator<'s, BufReader<R, B>, V, RowedStandard<'s, V>>,
-    >
-        requires { kind_of self.now.automaton ≡ Standard }
-        ensures ok { IfOk result (BeginsInBlocks R.remaining (rowed_states self.entry.now) reader
-            (take 1 (matches_after char_width (dictionary_of self.entry.now.automaton) [])) self.entry.now.automaton.folds) }
-        ensures err { IfErr result (λ e. error_kind e ≡ OutOfMemory) }
-    {
-        Ok(self.find_overlapping_no_suffix_iter_from_buf_reader(in_blocks(alloc, reader)?))
     }
 }

@@ -69,8 +69,8 @@ impl<V: Copy, A: Allocator + Copy> CharwiseDoubleArrayAhoCorasick<V, A> {
         let longest = self.longest_pattern()?;
         let source = ReadChars::new(in_blocks(alloc, reader)?);
         replace_from(
-            self.states.standard(),
-            self.folds,
+            self.searched.states.standard(),
+            self.searched.folds,
             source,
             longest,
             alloc,
@@ -91,13 +91,13 @@ impl<V: Copy, A: Allocator + Copy> CharwiseDoubleArrayAhoCorasick<V, A> {
         ensures { ReplacesRead (λ s. s.now) O.contents F.step IsScalar encode_utf8_all (R.remaining reader)
             (λ characters. non_overlapping (kind_of self.now) char_width (dictionary_of self.now) (as_read self.now.folds characters)) (HasNoLonger char_width (dictionary_of self.now)) result write out.old out.new }
     {
-        let marks = self.stream_marks(*self.depths.allocator())?;
+        let marks = self.stream_marks(*self.searched.depths.allocator())?;
         let source = ReadChars::new(in_blocks(alloc, reader)?);
-        let states = self.states.leftmost();
+        let states = self.searched.states.leftmost();
         replace_leftmost_skipping(
             states,
             &marks,
-            self.folds,
+            self.searched.folds,
             source,
             self.skipping(),
             alloc,
@@ -111,7 +111,9 @@ impl<V: Copy, A: Allocator + Copy> CharwiseDoubleArrayAhoCorasick<V, A> {
         ensures ok { IfOk result (IsLongest char_width (dictionary_of self.now)) }
         ensures err { IfErr result IsOutOfMemory }
     {
-        self.states.longest(*self.depths.allocator())
+        self.searched
+            .states
+            .longest(*self.searched.depths.allocator())
     }
 }
 

@@ -22,7 +22,9 @@ impl<V: Serializable + Copy, A: Allocator> CharwiseDoubleArrayAhoCorasick<V, A> 
         ensures automaton { IsAutomaton V.is_value self.now }
         ensures err { IfErr result IsOutOfMemory }
     {
-        self.states.serialize(alloc, self.folds, &self.filter)
+        self.searched
+            .states
+            .serialize(alloc, self.searched.folds, &self.searched.filter)
     }
 }
 

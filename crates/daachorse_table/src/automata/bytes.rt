@@ -10,7 +10,7 @@ use crate::searched::bytes_rows::BytewiseRows;
 use crate::streamed::{Coming, are_streamed, gives_over, gives_rest};
 use daachorse::{DoubleArrayAhoCorasickBuilder, Match, Result};
 use std::alloc::{AllocError, Global};
-use std::io::{self, BufRead, ErrorKind, Read};
+use std::io::{self, BufRead, ErrorKind};
 
 /// The patterns as slices, with their values.
 fn patvals_of(alloc: Global, patterns: &[Pattern]) -> Result<Vec<(&[u8], u32)>, AllocError> {
@@ -144,7 +144,7 @@ impl Automaton for Bytewise {
         is_saved && gives_rest(&mut resumed, &case.bytes[cut..], &mut coming)
     }
 
-    fn streams_from_reader<R: Read + Drop>(
+    fn streams_from_reader<R: BufRead + Drop>(
         &self,
         alloc: Global,
         reader: R,
@@ -156,21 +156,6 @@ impl Automaton for Bytewise {
         }
         let marks = self.stream_marks(alloc)?;
         let items = self.leftmost_stream_from_reader(alloc, &marks, reader)?;
-        Ok(gives_leftmost_read(items, expected, error))
-    }
-
-    fn streams_from_buf_reader<R: BufRead + Drop>(
-        &self,
-        alloc: Global,
-        reader: R,
-        expected: &[Found],
-        error: Option<ErrorKind>,
-    ) -> io::Result<bool> {
-        if self.match_kind().is_standard() {
-            return Ok(false);
-        }
-        let marks = self.stream_marks(alloc)?;
-        let items = self.leftmost_stream_from_buf_reader(alloc, &marks, reader)?;
         Ok(gives_leftmost_read(items, expected, error))
     }
 }

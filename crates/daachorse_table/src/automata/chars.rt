@@ -10,7 +10,7 @@ use crate::searched::chars_rows::CharwiseRows;
 use crate::streamed::{Coming, are_streamed, gives_over, gives_rest};
 use daachorse::{CharwiseDoubleArrayAhoCorasickBuilder, Match, Result};
 use std::alloc::Global;
-use std::io::{self, BufRead, ErrorKind, Read};
+use std::io::{self, BufRead, ErrorKind};
 use std::str;
 
 /// The documents as texts.
@@ -172,7 +172,7 @@ impl Automaton for Charwise {
         is_saved && gives_rest(&mut resumed, &case.characters[cut..], &mut coming)
     }
 
-    fn streams_from_reader<R: Read + Drop>(
+    fn streams_from_reader<R: BufRead + Drop>(
         &self,
         alloc: Global,
         reader: R,
@@ -184,21 +184,6 @@ impl Automaton for Charwise {
         }
         let marks = self.stream_marks(alloc)?;
         let items = self.leftmost_stream_from_reader(alloc, &marks, reader)?;
-        Ok(gives_leftmost_read(items, expected, error))
-    }
-
-    fn streams_from_buf_reader<R: BufRead + Drop>(
-        &self,
-        alloc: Global,
-        reader: R,
-        expected: &[Found],
-        error: Option<ErrorKind>,
-    ) -> io::Result<bool> {
-        if self.match_kind().is_standard() {
-            return Ok(false);
-        }
-        let marks = self.stream_marks(alloc)?;
-        let items = self.leftmost_stream_from_buf_reader(alloc, &marks, reader)?;
         Ok(gives_leftmost_read(items, expected, error))
     }
 }

@@ -3,8 +3,9 @@
 use crate::case::Case;
 use crate::finding::{
     Expected, Found, are_stepped, are_stepped_overlapping, gives, gives_from, gives_leftmost,
-    gives_no_suffix_read, gives_overlapping_read, gives_read, stand_after, stand_overlapping_after,
-    step_on, step_overlapping_on,
+    gives_no_suffix, gives_no_suffix_from, gives_no_suffix_read, gives_overlapping,
+    gives_overlapping_from, gives_overlapping_read, gives_read, stand_after,
+    stand_overlapping_after, step_on, step_overlapping_on,
 };
 use crate::replaced::{Style, append_styled, instead, write_styled};
 use crate::row::Pattern;
@@ -44,36 +45,20 @@ impl Searched for BytewiseRows {
         if !self.match_kind().is_standard() {
             return false;
         }
-        gives(self.find_overlapping_iter(&case.bytes), expected)
+        gives_overlapping(self.find_overlapping_iter(&case.bytes), expected)
     }
 
     fn overlapping_from_iter(&self, case: &Case, expected: &[Found]) -> bool {
         if !self.match_kind().is_standard() {
             return false;
         }
-        gives_from(
+        gives_overlapping_from(
             self.find_overlapping_iter_from_iter(case.bytes.iter().copied()),
             expected,
         )
     }
 
-    fn overlapping_from_reader<R: Read + Drop>(
-        &self,
-        alloc: Global,
-        reader: R,
-        expected: &[Found],
-        error: Option<ErrorKind>,
-    ) -> bool {
-        if !self.match_kind().is_standard() {
-            return false;
-        }
-        match self.find_overlapping_iter_from_reader(alloc, reader) {
-            Ok(items) => gives_overlapping_read(items, expected, error),
-            Err(_) => false,
-        }
-    }
-
-    fn overlapping_from_buf_reader<R: BufRead + Drop>(
+    fn overlapping_from_reader<R: BufRead + Drop>(
         &self,
         reader: R,
         expected: &[Found],
@@ -83,7 +68,7 @@ impl Searched for BytewiseRows {
             return false;
         }
         gives_overlapping_read(
-            self.find_overlapping_iter_from_buf_reader(reader),
+            self.find_overlapping_iter_from_reader(reader),
             expected,
             error,
         )
@@ -118,36 +103,20 @@ impl Searched for BytewiseRows {
         if !self.match_kind().is_standard() {
             return false;
         }
-        gives(self.find_overlapping_no_suffix_iter(&case.bytes), expected)
+        gives_no_suffix(self.find_overlapping_no_suffix_iter(&case.bytes), expected)
     }
 
     fn no_suffix_from_iter(&self, case: &Case, expected: &[Found]) -> bool {
         if !self.match_kind().is_standard() {
             return false;
         }
-        gives_from(
+        gives_no_suffix_from(
             self.find_overlapping_no_suffix_iter_from_iter(case.bytes.iter().copied()),
             expected,
         )
     }
 
-    fn no_suffix_from_reader<R: Read + Drop>(
-        &self,
-        alloc: Global,
-        reader: R,
-        expected: &[Found],
-        error: Option<ErrorKind>,
-    ) -> bool {
-        if !self.match_kind().is_standard() {
-            return false;
-        }
-        match self.find_overlapping_no_suffix_iter_from_reader(alloc, reader) {
-            Ok(items) => gives_no_suffix_read(items, expected, error),
-            Err(_) => false,
-        }
-    }
-
-    fn no_suffix_from_buf_reader<R: BufRead + Drop>(
+    fn no_suffix_from_reader<R: BufRead + Drop>(
         &self,
         reader: R,
         expected: &[Found],
@@ -157,7 +126,7 @@ impl Searched for BytewiseRows {
             return false;
         }
         gives_no_suffix_read(
-            self.find_overlapping_no_suffix_iter_from_buf_reader(reader),
+            self.find_overlapping_no_suffix_iter_from_reader(reader),
             expected,
             error,
         )
@@ -180,23 +149,7 @@ impl Searched for BytewiseRows {
         )
     }
 
-    fn find_from_reader<R: Read + Drop>(
-        &self,
-        alloc: Global,
-        reader: R,
-        expected: &[Found],
-        error: Option<ErrorKind>,
-    ) -> bool {
-        if !self.match_kind().is_standard() {
-            return false;
-        }
-        match self.find_iter_from_reader(alloc, reader) {
-            Ok(items) => gives_read(items, expected, error),
-            Err(_) => false,
-        }
-    }
-
-    fn find_from_buf_reader<R: BufRead + Drop>(
+    fn find_from_reader<R: BufRead + Drop>(
         &self,
         reader: R,
         expected: &[Found],
@@ -205,7 +158,7 @@ impl Searched for BytewiseRows {
         if !self.match_kind().is_standard() {
             return false;
         }
-        gives_read(self.find_iter_from_buf_reader(reader), expected, error)
+        gives_read(self.find_iter_from_reader(reader), expected, error)
     }
 
     fn find_by_steps(&self, case: &Case, expected: &[Found], depths: &[u32]) -> bool {

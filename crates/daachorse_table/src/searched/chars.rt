@@ -3,7 +3,8 @@
 use crate::case::Case;
 use crate::finding::{
     Found, are_stepped, are_stepped_overlapping, gives, gives_from_text, gives_leftmost,
-    gives_no_suffix_read, gives_overlapping_read, gives_read,
+    gives_no_suffix, gives_no_suffix_from_text, gives_no_suffix_read, gives_overlapping,
+    gives_overlapping_from_text, gives_overlapping_read, gives_read,
 };
 use crate::replaced::{Style, append_text_styled, instead_of_text, write_styled};
 use crate::row::Pattern;
@@ -42,30 +43,14 @@ impl Searched for Charwise {
         if !self.match_kind().is_standard() {
             return false;
         }
-        gives(self.find_overlapping_iter(&case.text), expected)
+        gives_overlapping(self.find_overlapping_iter(&case.text), expected)
     }
 
     fn overlapping_from_iter(&self, case: &Case, expected: &[Found]) -> bool {
         overlapping_in_bytes_of(self, &case.text, expected)
     }
 
-    fn overlapping_from_reader<R: Read + Drop>(
-        &self,
-        alloc: Global,
-        reader: R,
-        expected: &[Found],
-        error: Option<ErrorKind>,
-    ) -> bool {
-        if !self.match_kind().is_standard() {
-            return false;
-        }
-        match self.find_overlapping_iter_from_reader(alloc, reader) {
-            Ok(items) => gives_overlapping_read(items, expected, error),
-            Err(_) => false,
-        }
-    }
-
-    fn overlapping_from_buf_reader<R: BufRead + Drop>(
+    fn overlapping_from_reader<R: BufRead + Drop>(
         &self,
         reader: R,
         expected: &[Found],
@@ -75,7 +60,7 @@ impl Searched for Charwise {
             return false;
         }
         gives_overlapping_read(
-            self.find_overlapping_iter_from_buf_reader(reader),
+            self.find_overlapping_iter_from_reader(reader),
             expected,
             error,
         )
@@ -101,30 +86,14 @@ impl Searched for Charwise {
         if !self.match_kind().is_standard() {
             return false;
         }
-        gives(self.find_overlapping_no_suffix_iter(&case.text), expected)
+        gives_no_suffix(self.find_overlapping_no_suffix_iter(&case.text), expected)
     }
 
     fn no_suffix_from_iter(&self, case: &Case, expected: &[Found]) -> bool {
         no_suffix_in_bytes_of(self, &case.text, expected)
     }
 
-    fn no_suffix_from_reader<R: Read + Drop>(
-        &self,
-        alloc: Global,
-        reader: R,
-        expected: &[Found],
-        error: Option<ErrorKind>,
-    ) -> bool {
-        if !self.match_kind().is_standard() {
-            return false;
-        }
-        match self.find_overlapping_no_suffix_iter_from_reader(alloc, reader) {
-            Ok(items) => gives_no_suffix_read(items, expected, error),
-            Err(_) => false,
-        }
-    }
-
-    fn no_suffix_from_buf_reader<R: BufRead + Drop>(
+    fn no_suffix_from_reader<R: BufRead + Drop>(
         &self,
         reader: R,
         expected: &[Found],
@@ -134,7 +103,7 @@ impl Searched for Charwise {
             return false;
         }
         gives_no_suffix_read(
-            self.find_overlapping_no_suffix_iter_from_buf_reader(reader),
+            self.find_overlapping_no_suffix_iter_from_reader(reader),
             expected,
             error,
         )
@@ -151,23 +120,7 @@ impl Searched for Charwise {
         find_in_bytes_of(self, &case.text, expected)
     }
 
-    fn find_from_reader<R: Read + Drop>(
-        &self,
-        alloc: Global,
-        reader: R,
-        expected: &[Found],
-        error: Option<ErrorKind>,
-    ) -> bool {
-        if !self.match_kind().is_standard() {
-            return false;
-        }
-        match self.find_iter_from_reader(alloc, reader) {
-            Ok(items) => gives_read(items, expected, error),
-            Err(_) => false,
-        }
-    }
-
-    fn find_from_buf_reader<R: BufRead + Drop>(
+    fn find_from_reader<R: BufRead + Drop>(
         &self,
         reader: R,
         expected: &[Found],
@@ -176,7 +129,7 @@ impl Searched for Charwise {
         if !self.match_kind().is_standard() {
             return false;
         }
-        gives_read(self.find_iter_from_buf_reader(reader), expected, error)
+        gives_read(self.find_iter_from_reader(reader), expected, error)
     }
 
     fn find_by_steps(&self, case: &Case, expected: &[Found], depths: &[u32]) -> bool {
@@ -253,7 +206,7 @@ fn overlapping_in_bytes_of(searched: &Charwise, text: &str, expected: &[Found]) 
     if !searched.match_kind().is_standard() {
         return false;
     }
-    gives_from_text(
+    gives_overlapping_from_text(
         searched.find_overlapping_iter_from_iter(text.bytes()),
         text,
         expected,
@@ -265,7 +218,7 @@ fn no_suffix_in_bytes_of(searched: &Charwise, text: &str, expected: &[Found]) ->
     if !searched.match_kind().is_standard() {
         return false;
     }
-    gives_from_text(
+    gives_no_suffix_from_text(
         searched.find_overlapping_no_suffix_iter_from_iter(text.bytes()),
         text,
         expected,

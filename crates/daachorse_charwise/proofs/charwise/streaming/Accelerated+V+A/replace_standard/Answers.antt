@@ -1,0 +1,48 @@
+-- What the reader gives is what the source has, and its matches are those of the automaton.
+use Rattle.std.proofs.Common.{ℕ, Bool, List, refl, sym, ap, ◌∙◌, subst}
+use Rattle.std.proofs.lemmas.Result.{err_from_is_err_and}
+use Rattle.std.specs.Char.{IsScalar}
+use Rattle.std.specs.Prelude.{encode_utf8_all}
+use Rattle.std.specs.Io.Buffered.{reader_remaining}
+use Rattle.daachorse_model.specs.declared.Match.{Match}
+use Rattle.daachorse_model.specs.declared.MatchKind.{MatchKind}
+use Rattle.daachorse_model.specs.Folding.{as_read}
+use Rattle.daachorse_model.specs.Matches.{standard}
+use Rattle.daachorse_model.specs.Units.{char_width}
+use Rattle.daachorse_rows.specs.Rows.{Rowed}
+use Rattle.daachorse_replacing.specs.ByKind.{non_overlapping}
+use Rattle.daachorse_replacing.specs.Streams.{HasNoLonger, IsLongest}
+use Rattle.daachorse_replacing.proofs.ReadLaws.{longest-least, non_overlapping_apart, read-nothing, replaces-characters}
+use Rattle.daachorse_charwise_states.specs.Parts.{Parts, content}
+use Rattle.daachorse_charwise.specs.Accelerated.{rowed_states}
+use Rattle.daachorse_charwise.specs.Automata.{Automaton, dictionary_of, kind_of}
+use Rattle.daachorse_charwise.proofs.charwise.streaming.Accelerated+V+A.replace_standard.Goals as goal
+
+pub returns-in_err-longest : goal.returns-in_err-longest
+returns-in_err-longest g c =
+    let p = err_from_is_err_and c.from_residual.result c.from_residual.ensures.1 in
+    let a = c.args.self.now.automaton in
+    rw p.1 (read-nothing _ g.O.Write.contents _ IsScalar encode_utf8_all _ _ _ _ _ refl (λ units. non_overlapping_apart (kind_of a) char_width (dictionary_of a) (as_read a.folds units)))
+
+pub returns-in_err-in_blocks : goal.returns-in_err-in_blocks
+returns-in_err-in_blocks g c =
+    let p = err_from_is_err_and c.from_residual-in_err-in_blocks.result c.from_residual-in_err-in_blocks.ensures.1 in
+    let a = c.args.self.now.automaton in
+    rw p.1 (read-nothing _ g.O.Write.contents _ IsScalar encode_utf8_all _ _ _ _ _ refl (λ units. non_overlapping_apart (kind_of a) char_width (dictionary_of a) (as_read a.folds units)))
+
+pub replace_from-requires-clause-longest : goal.replace_from-requires-clause-longest
+replace_from-requires-clause-longest g c =
+    let P : Rowed (Parts g.row.V.Denot) → Type 0 = λ r. HasNoLonger char_width (content r.automaton) c.in_ok-longest.longest in
+    let Q : Automaton g.row.V.Denot → Type 0 = λ a. HasNoLonger char_width (dictionary_of a) c.in_ok-longest.longest in
+    subst P (sym c.standard.ensures) (subst Q c.automaton.ensures c.in_ok-longest.ensures.ok.none_longer)
+
+pub returns : goal.returns
+returns g c =
+    let M : Rowed (Parts g.row.V.Denot) → Bool → List ℕ → List (Match g.row.V.Denot) = λ r folds units. standard char_width (content r.automaton) (as_read folds units) in
+    let folds = c.is_ascii_case_insensitive-folds in
+    let option = folds.ensures ∙ ap (λ (a : Automaton g.row.V.Denot). a.folds) c.automaton-2.ensures in
+    let a = c.args.self.now.automaton in
+    let by_kind : MatchKind → List ℕ → List (Match g.row.V.Denot) = λ k units. non_overlapping k char_width (dictionary_of a) (as_read a.folds units) in
+    let same = ap (λ r. M r folds.result) c.standard.ensures ∙ ap (λ b. M (rowed_states c.args.self.now) b) option ∙ ap by_kind (sym c.requires.kind) in
+    let L : Automaton g.row.V.Denot → Type 0 = λ a. IsLongest char_width (dictionary_of a) c.in_ok-longest.longest in
+    replaces-characters _ g.O.Write.contents _ (reader_remaining g.R.Read.remaining) _ _ _ c.new-source.ensures.reader c.in_ok-in_blocks.ensures.reads.left same _ (longest-least (subst L c.automaton.ensures c.in_ok-longest.ensures.ok)) c.replace_from.result c.replace_from.ensures.whole c.replace_from.ensures.beginning

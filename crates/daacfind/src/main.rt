@@ -2,10 +2,10 @@
 //! the number of its pattern.
 #![tactic(auto)]
 
-use daacfind_command::command::Find;
+use daacfind_command::command::command;
 use daacfind_command::program::run_program;
 use std::process::ExitCode;
 
 fn main(rt: HostRuntime) -> ExitCode {
-    run_program::<Find>(&rt)
+    run_program(&rt, command)
 }

@@ -1,4 +1,8 @@
 pub mod Built
+pub mod EndsLaws
+pub mod FindLaws
 pub mod Finds
 pub mod Gives
+pub mod IndexLaws
 pub mod Pieces
+pub mod WrittenLaws

@@ -1,5 +1,6 @@
 -- An empty piece at the end is what `without_empty_end` leaves out.
-use Rattle.std.proofs.Common.{◌≡◌, ℕ, ◌-◌, ◌==◌, Bool, IsTrue, Bor, List, [], ◌∷◌, length, map, take, Some, slice_get, refl, ap, sym, ◌∙◌, rules, arith}
+use Rattle.std.proofs.Common.{◌≡◌, ℕ, ◌-◌, ◌==◌, Bool, IsTrue, Bor, List, [], ◌∷◌}
+use Rattle.std.proofs.Common.{length, map, take, Some, slice_get, refl, ap, sym, ◌∙◌, rules, arith}
 use Rattle.std.proofs.lemmas.List.{length-map}
 use Rattle.std.proofs.lemmas.Option.{slice_get-map}
 use Rattle.std.specs.List.{take-map}
@@ -11,7 +12,8 @@ first_stays : (p q : List ℕ) (ps : List (List ℕ)) → without_empty_end (p �
 first_stays [] q ps = refl
 first_stays (b ∷ p) q ps = refl
 
-dropped_of : (p : List ℕ) (ps : List (List ℕ)) → slice_get (p ∷ ps) (length ps) ≡ Some [] → take (length ps) (p ∷ ps) ≡ without_empty_end (p ∷ ps)
+dropped_of : (p : List ℕ) (ps : List (List ℕ)) → slice_get (p ∷ ps) (length ps) ≡ Some []
+    → take (length ps) (p ∷ ps) ≡ without_empty_end (p ∷ ps)
 dropped_of [] [] e = refl
 dropped_of (b ∷ p) [] e = cc
 dropped_of p (q ∷ ps) e = ap (λ l. p ∷ l) (dropped_of q ps e) ∙ sym (first_stays p q ps)
@@ -36,15 +38,20 @@ with_last (p ∷ ps) h =
     kept_of p ps (rw n at h)
 
 -- the same of slices, of which there are n
-pub texts_without_last : (n : ℕ) (ps qs : List (Bor (List ℕ))) → n ≡ length ps → qs ≡ take (n - 1) ps → slice_get (map (λ p. p.now) ps) (length ps - 1) ≡ Some []
+pub texts_without_last : (n : ℕ) (ps qs : List (Bor (List ℕ))) → n ≡ length ps → qs ≡ take (n - 1) ps
+    → slice_get (map (λ p. p.now) ps) (length ps - 1) ≡ Some []
     → map (λ q. q.now) qs ≡ without_empty_end (map (λ p. p.now) ps)
 texts_without_last n ps qs l e h =
     let texts : List (List ℕ) = map (λ p. p.now) ps in
     let many : length texts ≡ length ps = length-map ps (λ p. p.now) in
-    ap (map (λ q. q.now)) e ∙ sym (take-map (λ p. p.now) (n - 1) ps) ∙ ap (λ k. take (k - 1) texts) (l ∙ sym many) ∙ without_last texts (rw many h)
+    ap (map (λ q. q.now)) e ∙ sym (take-map (λ p. p.now) (n - 1) ps) ∙ ap (λ k. take (k - 1) texts) (l ∙ sym many)
+    ∙ without_last texts (rw many h)
 
-pub texts_with_last : (ps : List (Bor (List ℕ))) → (¬ (slice_get (map (λ p. p.now) ps) (length ps - 1) ≡ Some [])) → map (λ p. p.now) ps ≡ without_empty_end (map (λ p. p.now) ps)
-texts_with_last ps h = let many : length (map (λ p. p.now) ps) ≡ length ps = length-map ps (λ p. p.now) in with_last (map (λ p. p.now) ps) (rw many h)
+pub texts_with_last : (ps : List (Bor (List ℕ))) → (¬ (slice_get (map (λ p. p.now) ps) (length ps - 1) ≡ Some []))
+    → map (λ p. p.now) ps ≡ without_empty_end (map (λ p. p.now) ps)
+texts_with_last ps h =
+    let many : length (map (λ p. p.now) ps) ≡ length ps = length-map ps (λ p. p.now) in
+    with_last (map (λ p. p.now) ps) (rw many h)
 
 is_empty_text : (l : List ℕ) (b : Bool) → b ≡ (length l == 0) → (IsTrue b → Some l ≡ Some []) × (Some l ≡ Some [] → IsTrue b)
 is_empty_text [] b e = (λ _. refl, λ _. search rules)

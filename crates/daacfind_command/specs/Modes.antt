@@ -37,4 +37,5 @@ found_by First K haystack = leftmost byte_width K haystack
 
 -- what is written of it, where the dictionary has the lines of a pattern file, each with its number
 abbrev pub text_of_mode : Mode → List ℕ → List ℕ → List ℕ
-text_of_mode mode patterns haystack = match_text (found_by mode (dictionary (kind_of_mode mode) (with_numbers 0 (pattern_lines patterns))) haystack)
+text_of_mode mode patterns haystack =
+    match_text (found_by mode (dictionary (kind_of_mode mode) (with_numbers 0 (pattern_lines patterns))) haystack)

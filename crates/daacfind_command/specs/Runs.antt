@@ -23,7 +23,8 @@ abbrev pub value_gives : ℕ → Result ℕ TryFromIntError → Type 0
 value_gives i r = OkIff r (i < 2 ^ 32) i
 
 -- A sink took all of a text, and did not fail; or it failed once, and took a beginning.
-pub record IsWritten {T E : Type 0} (old new : Option (List ℕ)) (failures_old failures_new : ℕ) (result : Result T E) (text : List ℕ) : Type 0 where
+pub record IsWritten {T E : Type 0} (old new : Option (List ℕ)) (failures_old failures_new : ℕ) (result : Result T E)
+    (text : List ℕ) : Type 0 where
   pub whole : OnOk result (Appends old new text)
   pub unfailed : OnOk result (failures_new ≡ failures_old)
   pub beginning : OnErr result (AppendsBeginning old new text)

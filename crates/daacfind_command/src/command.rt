@@ -1,42 +1,17 @@
 //! The command: from arguments to a status, and to a line on standard error if it fails.
 
-ghost use Rattle.std.specs.Prelude.{◌≡◌, IfErr, IfSome, None, OnOk};
-ghost use Rattle.daacfind_command.specs.Commands.{Ask, AskNothing, EndsBy, IsCause, status_of, words_of};
+ghost use Rattle.std.specs.Prelude.{◌≡◌, IfErr, IfSome, None};
+ghost use Rattle.daacfind_command.specs.Commands.{status_of, words_of};
+ghost use Rattle.daacfind_command.specs.FindCommands.{Ask, AskNothing, EndsBy, IsCause};
 
 use crate::inputs::Inputs;
 use crate::mode::Mode;
-use crate::program::Command;
 use crate::run::{RunError, run};
-use crate::sink::{Sink, SinkText};
-use std::alloc::{Allocator, Global};
-use std::fmt::Write;
-use thiserror::Error;
+use crate::sink::Sink;
+use crate::status::{CommandError, status};
+use std::alloc::Allocator;
 
-/// Why a command failed. Its text is the line for standard error.
-#[derive(Debug, Drop, Error)]
-enum CommandError<'a> {
-    #[error("usage: daacfind overlapping|nosuffix|find|longest|first PATTERNS HAYSTACK")]
-    Usage,
-    #[error("daacfind: cannot read {0}")]
-    Read(&'a str),
-    #[error(transparent)]
-    Run(RunError),
-}
-
-/// The command of the program `daacfind`.
-pub struct Find;
-
-impl Command for Find {
-    fn run<I: Inputs, S: Sink, E: Sink>(
-        alloc: Global,
-        args: &[Option<&str>],
-        files: &mut I,
-        out: &mut S,
-        err: &mut E,
-    ) -> u8 {
-        command(alloc, args, files, out, err)
-    }
-}
+const USAGE: &str = "overlapping|nosuffix|find|longest|first PATTERNS HAYSTACK";
 
 /// Runs the command, and returns its status: 0 if all was written, 2 after wrong usage, else 1.
 ///
@@ -55,16 +30,8 @@ pub fn command<A: Allocator + Copy, I: Inputs, S: Sink, E: Sink>(
     ensures flushed { result ≡ 0 → S.unflushed out.new ≡ 0 }
     ensures untouched { result ≡ 2 → (files.new ≡ files.old) × (out.new ≡ out.old) }
 {
-    match attempt(alloc, args, files, out) {
-        Ok(()) => 0,
-        Err(error) => {
-            let _ = writeln!(SinkText { sink: err }, "{error}");
-            match error {
-                CommandError::Usage => 2,
-                CommandError::Read(_) | CommandError::Run(_) => 1,
-            }
-        }
-    }
+    let attempt = attempt(alloc, args, files, out);
+    status(attempt, "daacfind", USAGE, err)
 }
 
 fn attempt<'a, A: Allocator + Copy, I: Inputs, S: Sink>(
@@ -72,10 +39,10 @@ fn attempt<'a, A: Allocator + Copy, I: Inputs, S: Sink>(
     args: &[Option<&'a str>],
     files: &mut I,
     out: &mut S,
-) -> Result<(), CommandError<'a>>
+) -> Result<(), CommandError<'a, RunError>>
     ensures ends { EndsBy (words_of args.now) (I.given files.old) (S.taken out.old) (S.taken out.new) (S.failures out.old) (S.failures out.new) (status_of result) }
     ensures cause { IfErr result (IsCause (words_of args.now) (I.given files.old)) }
-    ensures flushed { OnOk result (S.unflushed out.new ≡ 0) }
+    ensures flushed { status_of result ≡ 0 → S.unflushed out.new ≡ 0 }
     ensures untouched { status_of result ≡ 2 → (files.new ≡ files.old) × (out.new ≡ out.old) }
 {
     let Some((mode, patterns, haystack)) = asked(args) else {

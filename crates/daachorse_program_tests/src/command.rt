@@ -5,10 +5,9 @@ ghost use Rattle.std.specs.Prelude.{None};
 
 use crate::expect;
 use crate::halting::{Halt, Halting};
-use daacfind_command::command::{Find, command};
+use daacfind_command::command::command;
 use daacfind_command::inputs::{Arguments, Inputs};
 use daacfind_command::mode::Mode;
-use daacfind_command::program::{Command, run_in};
 use daacfind_command::run::{RunError, run};
 use daacfind_command::sink::WriterSink;
 use daachorse::errors::{DaachorseError, Limit};
@@ -27,7 +26,7 @@ const PATTERNS: &[u8] = b"bcd\nab\na\n";
 
 // A few files in memory, one of them the automaton, and how often a read was tried.
 #[derive(Drop)]
-struct Memory<'a> {
+pub struct Memory<'a> {
     alloc: Global,
     reads: u64,
     automaton: &'a [u8],
@@ -88,7 +87,7 @@ struct Row {
     words: &'static [&'static [u8]],
     status: u8,
     written: &'static [u8],
-    told: &'static [u8],
+    reported: &'static [u8],
     reads: u64,
 }
 
@@ -98,7 +97,7 @@ const ROWS: &[Row] = &[
         words: &[],
         status: 2,
         written: b"",
-        told: USAGE,
+        reported: USAGE,
         reads: 0,
     },
     Row {
@@ -106,7 +105,7 @@ const ROWS: &[Row] = &[
         words: &[b"overlapping", b"patterns"],
         status: 2,
         written: b"",
-        told: USAGE,
+        reported: USAGE,
         reads: 0,
     },
     Row {
@@ -114,7 +113,7 @@ const ROWS: &[Row] = &[
         words: &[b"overlapping", b"patterns", b"haystack", b"more"],
         status: 2,
         written: b"",
-        told: USAGE,
+        reported: USAGE,
         reads: 0,
     },
     Row {
@@ -122,7 +121,7 @@ const ROWS: &[Row] = &[
         words: &[b"shortest", b"patterns", b"haystack"],
         status: 2,
         written: b"",
-        told: USAGE,
+        reported: USAGE,
         reads: 0,
     },
     Row {
@@ -130,7 +129,7 @@ const ROWS: &[Row] = &[
         words: &[b"write", b"find", b"patterns"],
         status: 2,
         written: b"",
-        told: USAGE,
+        reported: USAGE,
         reads: 0,
     },
     Row {
@@ -138,7 +137,7 @@ const ROWS: &[Row] = &[
         words: &[b"read", b"find", b"automaton", b"haystack"],
         status: 2,
         written: b"",
-        told: USAGE,
+        reported: USAGE,
         reads: 0,
     },
     Row {
@@ -146,7 +145,7 @@ const ROWS: &[Row] = &[
         words: &[b"overlapping", b"\xff", b"haystack"],
         status: 2,
         written: b"",
-        told: USAGE,
+        reported: USAGE,
         reads: 0,
     },
     Row {
@@ -154,7 +153,7 @@ const ROWS: &[Row] = &[
         words: &[b"find", LONG, b"haystack"],
         status: 0,
         written: b"0 1 2\n1 4 0\n",
-        told: b"",
+        reported: b"",
         reads: 2,
     },
     Row {
@@ -162,7 +161,7 @@ const ROWS: &[Row] = &[
         words: &[b"find", b"patterns", b"haystack", b"", b""],
         status: 2,
         written: b"",
-        told: USAGE,
+        reported: USAGE,
         reads: 0,
     },
     Row {
@@ -170,7 +169,7 @@ const ROWS: &[Row] = &[
         words: &[b"overlapping", b"lost", b"haystack"],
         status: 1,
         written: b"",
-        told: b"daacfind: cannot read lost\n",
+        reported: b"daacfind: cannot read lost\n",
         reads: 1,
     },
     Row {
@@ -178,7 +177,7 @@ const ROWS: &[Row] = &[
         words: &[b"overlapping", b"patterns", b"lost"],
         status: 1,
         written: b"",
-        told: b"daacfind: cannot read lost\n",
+        reported: b"daacfind: cannot read lost\n",
         reads: 2,
     },
     Row {
@@ -186,7 +185,7 @@ const ROWS: &[Row] = &[
         words: &[b"overlapping", b"patterns", b"haystack"],
         status: 0,
         written: b"0 1 2\n0 2 1\n1 4 0\n",
-        told: b"",
+        reported: b"",
         reads: 2,
     },
     Row {
@@ -194,7 +193,7 @@ const ROWS: &[Row] = &[
         words: &[b"nosuffix", b"patterns", b"haystack"],
         status: 0,
         written: b"0 1 2\n0 2 1\n1 4 0\n",
-        told: b"",
+        reported: b"",
         reads: 2,
     },
     Row {
@@ -202,7 +201,7 @@ const ROWS: &[Row] = &[
         words: &[b"find", b"patterns", b"haystack"],
         status: 0,
         written: b"0 1 2\n1 4 0\n",
-        told: b"",
+        reported: b"",
         reads: 2,
     },
     Row {
@@ -210,7 +209,7 @@ const ROWS: &[Row] = &[
         words: &[b"find", b"line feed", b"letter"],
         status: 0,
         written: b"0 0 0\n1 1 0\n",
-        told: b"",
+        reported: b"",
         reads: 2,
     },
     Row {
@@ -218,7 +217,7 @@ const ROWS: &[Row] = &[
         words: &[b"longest", b"chain", b"haystack"],
         status: 0,
         written: b"0 4 2\n",
-        told: b"",
+        reported: b"",
         reads: 2,
     },
     Row {
@@ -226,7 +225,7 @@ const ROWS: &[Row] = &[
         words: &[b"first", b"chain", b"haystack"],
         status: 0,
         written: b"0 2 0\n",
-        told: b"",
+        reported: b"",
         reads: 2,
     },
     Row {
@@ -234,7 +233,7 @@ const ROWS: &[Row] = &[
         words: &[b"find", b"nothing", b"letter"],
         status: 0,
         written: b"",
-        told: b"",
+        reported: b"",
         reads: 2,
     },
     Row {
@@ -242,7 +241,7 @@ const ROWS: &[Row] = &[
         words: &[b"find", b"patterns", b"nothing"],
         status: 0,
         written: b"",
-        told: b"",
+        reported: b"",
         reads: 2,
     },
 ];
@@ -259,22 +258,35 @@ pub struct End {
 
 impl End {
     /// Whether it is so.
-    pub fn is(&self, status: u8, written: &[u8], told: &[u8], reads: u64) -> bool {
+    pub fn is(&self, status: u8, written: &[u8], reported: &[u8], reads: u64) -> bool {
         self.status == status
             && self.out.writer().taken.as_slice() == written
-            && self.err.writer().as_slice() == told
+            && self.err.writer().as_slice() == reported
             && self.reads == reads
     }
 }
 
-/// How a program ends on these words, with this automaton as a file and an output that takes so many
-/// bytes.
-pub fn end_of<C: Command>(
+/// How a program ends that runs this command on these words, with this automaton as a file and an
+/// output that takes so many bytes.
+pub fn end_of<'m, C>(
     alloc: Global,
-    automaton: &[u8],
+    automaton: &'m [u8],
     words: &[&[u8]],
     room: usize,
-) -> Result<End, AllocError> {
+    command: C,
+) -> Result<End, AllocError>
+where
+    C: FnOnce(
+        Global,
+        &[Option<&str>],
+        &mut Memory<'m>,
+        &mut WriterSink<Halting>,
+        &mut WriterSink<Vec<u8>>,
+    ) -> u8,
+    requires { C.IsAlwaysCallable command }
+{
+    let arguments = Arguments::read(&Words { words }, alloc)?;
+    let texts = arguments.texts(alloc)?;
     let mut files = Memory {
         alloc,
         reads: 0,
@@ -282,7 +294,7 @@ pub fn end_of<C: Command>(
     };
     let mut out = WriterSink::new(Halting::new(alloc, room));
     let mut err = WriterSink::new(Vec::new(alloc));
-    let status = run_in::<C, _, _, _, _>(&Words { words }, alloc, &mut files, &mut out, &mut err)?;
+    let status = command(alloc, &texts, &mut files, &mut out, &mut err);
     let reads = files.reads;
     Ok(End {
         status,
@@ -294,12 +306,12 @@ pub fn end_of<C: Command>(
 
 // Whether the program ends as the row says.
 fn ends_so(alloc: Global, row: &Row) -> Result<bool, AllocError> {
-    let end = end_of::<Find>(alloc, b"", row.words, usize::MAX)?;
-    Ok(end.is(row.status, row.written, row.told, row.reads))
+    let end = end_of(alloc, b"", row.words, usize::MAX, command)?;
+    Ok(end.is(row.status, row.written, row.reported, row.reads))
 }
 
 #[test]
-fn the_program_tells_its_status_and_its_cause(rt: HostRuntime) -> Result<(), Fail> {
+fn the_program_reports_its_status_and_its_cause(rt: HostRuntime) -> Result<(), Fail> {
     for row in ROWS {
         expect(&rt, ends_so(rt.alloc(), row)?, row.shows);
     }
@@ -313,10 +325,10 @@ struct Failing {
     shows: &'static str,
     words: &'static [Option<&'static str>],
     takes: usize,
-    tells: usize,
+    reports: usize,
     refused: u64,
     status: u8,
-    told: &'static [u8],
+    reported: &'static [u8],
 }
 
 const RUN: &[Option<&str>] = &[Some("overlapping"), Some("patterns"), Some("haystack")];
@@ -326,55 +338,55 @@ const FAILING: &[Failing] = &[
         shows: "an output that fails at once",
         words: RUN,
         takes: 0,
-        tells: 99,
+        reports: 99,
         refused: u64::MAX,
         status: 1,
-        told: b"daacfind: cannot write\n",
+        reported: b"daacfind: cannot write\n",
     },
     Failing {
         shows: "an output that fails later",
         words: RUN,
         takes: 7,
-        tells: 99,
+        reports: 99,
         refused: u64::MAX,
         status: 1,
-        told: b"daacfind: cannot write\n",
+        reported: b"daacfind: cannot write\n",
     },
     Failing {
         shows: "no memory for the build",
         words: RUN,
         takes: 99,
-        tells: 99,
+        reports: 99,
         refused: 3,
         status: 1,
-        told: b"OutOfMemoryError: memory allocation failed\n",
+        reported: b"OutOfMemoryError: memory allocation failed\n",
     },
     Failing {
-        shows: "the usage, which cannot be told",
+        shows: "the usage, which cannot be reported",
         words: &[],
         takes: 99,
-        tells: 0,
+        reports: 0,
         refused: u64::MAX,
         status: 2,
-        told: b"",
+        reported: b"",
     },
     Failing {
-        shows: "a cause that cannot be told whole",
+        shows: "a cause that cannot be reported whole",
         words: &[Some("find"), Some("lost"), Some("haystack")],
         takes: 99,
-        tells: 8,
+        reports: 8,
         refused: u64::MAX,
         status: 1,
-        told: b"daacfind",
+        reported: b"daacfind",
     },
     Failing {
-        shows: "nothing to tell",
+        shows: "nothing to report",
         words: RUN,
         takes: 99,
-        tells: 0,
+        reports: 0,
         refused: u64::MAX,
         status: 0,
-        told: b"",
+        reported: b"",
     },
 ];
 
@@ -387,13 +399,13 @@ fn fails_so(alloc: Global, row: &Failing) -> bool {
         automaton: b"",
     };
     let mut out = WriterSink::new(Halting::new(alloc, row.takes));
-    let mut err = WriterSink::new(Halting::new(alloc, row.tells));
+    let mut err = WriterSink::new(Halting::new(alloc, row.reports));
     let status = command(&refusing, row.words, &mut files, &mut out, &mut err);
-    status == row.status && err.writer().taken.as_slice() == row.told
+    status == row.status && err.writer().taken.as_slice() == row.reported
 }
 
 #[test]
-fn a_command_that_fails_tells_its_status(rt: HostRuntime) {
+fn a_command_that_fails_reports_its_status(rt: HostRuntime) {
     for row in FAILING {
         expect(&rt, fails_so(rt.alloc(), row), row.shows);
     }

@@ -2,11 +2,11 @@
 
 use crate::command::{End, end_of};
 use crate::expect;
+use daacfind_command::index::command::command;
+use daacfind_command::index::written::{IndexError, run_written, write};
 use daacfind_command::mode::Mode;
 use daacfind_command::sink::WriterSink;
 use daachorse::errors::DaachorseError;
-use daacindex_command::command::Index;
-use daacindex_command::written::{IndexError, run_written, write};
 use refusing::{Answer, Refusing};
 use std::alloc::{AllocError, Global};
 use std::test::Fail;
@@ -70,13 +70,13 @@ const ROWS: &[Row] = &[
 
 // Whether the program ends as the row says.
 fn ends_so(alloc: Global, row: &Row) -> Result<bool, AllocError> {
-    let (_shows, words, status, told, reads) = *row;
-    let end = end_of::<Index>(alloc, b"", words, usize::MAX)?;
-    Ok(end.is(status, b"", told, reads))
+    let (_shows, words, status, reported, reads) = *row;
+    let end = end_of(alloc, b"", words, usize::MAX, command)?;
+    Ok(end.is(status, b"", reported, reads))
 }
 
 #[test]
-fn the_index_tells_its_status_and_its_cause(rt: HostRuntime) -> Result<(), Fail> {
+fn the_index_reports_its_status_and_its_cause(rt: HostRuntime) -> Result<(), Fail> {
     for row in ROWS {
         expect(&rt, ends_so(rt.alloc(), row)?, row.0);
     }
@@ -108,7 +108,7 @@ fn searches_so(
     cause: &[u8],
 ) -> Result<bool, AllocError> {
     let words = [b"search".as_slice(), mode, b"automaton", b"haystack"];
-    let end = end_of::<Index>(alloc, automaton, &words, usize::MAX)?;
+    let end = end_of(alloc, automaton, &words, usize::MAX, command)?;
     let status = if cause.is_empty() { 0 } else { 1 };
     Ok(end.is(status, found, cause, 2))
 }
@@ -119,7 +119,7 @@ const OTHER_KIND: &[u8] = b"daacindex: the automaton is for another kind of sear
 
 // The automaton that the program writes, with nothing else.
 fn written(alloc: Global, mode: &[u8], patterns: &[u8]) -> Result<End, AllocError> {
-    end_of::<Index>(alloc, b"", &[b"write", mode, patterns], usize::MAX)
+    end_of(alloc, b"", &[b"write", mode, patterns], usize::MAX, command)
 }
 
 // Whether the automaton of a row is written and searched, and is refused without its first byte and
@@ -169,11 +169,11 @@ fn halts_so(alloc: Global, row: &HaltRow) -> Result<bool, AllocError> {
     let automaton = end.out.writer().taken.as_slice();
     let wanted = wanted.unwrap_or(automaton.get(..room).unwrap_or(b""));
     let reads = if words.len() == 3 { 1 } else { 2 };
-    Ok(end_of::<Index>(alloc, automaton, words, room)?.is(1, wanted, CANNOT_WRITE, reads))
+    Ok(end_of(alloc, automaton, words, room, command)?.is(1, wanted, CANNOT_WRITE, reads))
 }
 
 #[test]
-fn an_output_that_fails_is_told(rt: HostRuntime) -> Result<(), Fail> {
+fn an_output_that_fails_is_reported(rt: HostRuntime) -> Result<(), Fail> {
     for row in &HALT_ROWS {
         expect(&rt, halts_so(rt.alloc(), row)?, "an output that fails");
     }
@@ -216,7 +216,7 @@ fn count_refusals(alloc: Global) -> Option<u32> {
 }
 
 #[test]
-fn a_request_that_is_refused_is_told(rt: HostRuntime) {
+fn a_request_that_is_refused_is_reported(rt: HostRuntime) {
     let count = count_refusals(rt.alloc());
     expect(
         &rt,

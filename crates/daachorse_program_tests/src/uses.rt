@@ -69,7 +69,7 @@ fn are_named(alloc: Global, row: &StreamRow) -> io::Result<bool> {
 /// Whether there are as many matches in bytes that are read as in a row.
 fn are_counted(alloc: Global, row: &StreamRow) -> io::Result<bool> {
     let (text, _, _, named) = *row;
-    let count = count_in_reader(&over_bytes(alloc)?, alloc, text.as_bytes())?;
+    let count = count_in_reader(&over_bytes(alloc)?, text.as_bytes())?;
     Ok(count == named.bytes().filter(|byte| *byte == b'[').count())
 }
 

@@ -2,10 +2,10 @@
 //! with its start, its end and the number of its pattern.
 #![tactic(auto)]
 
+use daacfind_command::index::command::command;
 use daacfind_command::program::run_program;
-use daacindex_command::command::Index;
 use std::process::ExitCode;
 
 fn main(rt: HostRuntime) -> ExitCode {
-    run_program::<Index>(&rt)
+    run_program(&rt, command)
 }

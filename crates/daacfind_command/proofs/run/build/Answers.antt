@@ -16,7 +16,8 @@ returns-clause-built g c =
     let read = c.iter.ensures.runs copied.0 copied.0.seen in
     let items = copied.2.2 ∙ read.4 (copied.2.0 ∙ r.2.2) ∙ ap (λ it. it.rest.now) copied.1 ∙ c.iter.ensures.rest ∙ c.deref.ensures.value in
     let P : List (List ℕ) → Type 0 = λ ts. IsBuiltOf value_gives c.args.kind false ts a in
-    subst P (ap (map (λ (t : Bor (List ℕ)). t.now)) items ∙ c.in_ok-patterns.ensures) (rw (c.match_kind-builder.ensures, c.new.ensures.folds) at r.2.3))
+    subst P (ap (map (λ (t : Bor (List ℕ)). t.now)) items ∙ c.in_ok-patterns.ensures)
+    (rw (c.match_kind-builder.ensures, c.new.ensures.folds) at r.2.3))
     c.build.ensures.ok
 
 pub returns-clause-err : goal.returns-clause-err
@@ -28,8 +29,10 @@ returns-clause-err g c =
       | inr r ↦
           let copied = c.copied.ensures.runs r.2.0 r.2.0.seen (r.2.1 ∙ r.1) in
           let read = c.iter.ensures.runs copied.0 copied.0.seen in
-          let items = copied.2.2 ∙ read.4 (copied.2.0 ∙ r.2.2) ∙ ap (λ it. it.rest.now) copied.1 ∙ c.iter.ensures.rest ∙ c.deref.ensures.value in
+          let items = copied.2.2 ∙ read.4 (copied.2.0 ∙ r.2.2) ∙ ap (λ it. it.rest.now) copied.1 ∙ c.iter.ensures.rest
+          ∙ c.deref.ensures.value in
           let P : List (List ℕ) → Type 0 = λ ts. IsBuildRefusal value_gives c.args.kind ts e in
-          subst P (ap (map (λ (t : Bor (List ℕ)). t.now)) items ∙ c.in_ok-patterns.ensures) (rw (c.match_kind-builder.ensures, c.new.ensures.folds) at r.2.3)
+          subst P (ap (map (λ (t : Bor (List ℕ)). t.now)) items ∙ c.in_ok-patterns.ensures)
+          (rw (c.match_kind-builder.ensures, c.new.ensures.folds) at r.2.3)
     ])
     c.build.ensures.err

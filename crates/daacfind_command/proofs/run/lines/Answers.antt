@@ -12,8 +12,11 @@ returns g c =
     elim c.if-ends_empty.branch [
       | then-ends_empty w ↦
           ap (λ v. map (λ line. line.now) v.items) w.lines-is
-          ∙ texts_without_last _ c.in_ok-lines.lines.items w.pop.new.self.items (sym all.len ∙ ap length all.value) w.pop.ensures.rest (rw all.value at (c.ends_empty.ensures.0 w.if-ends_empty.true)) ∙ whole
+          ∙ texts_without_last _ c.in_ok-lines.lines.items w.pop.new.self.items (sym all.len ∙ ap length all.value)
+          w.pop.ensures.rest (rw all.value at (c.ends_empty.ensures.0 w.if-ends_empty.true)) ∙ whole
       | else-ends_empty w ↦
           ap (λ v. map (λ line. line.now) v.items) w.lines-is
-          ∙ texts_with_last c.in_ok-lines.lines.items (λ h. let empty : c.ends_empty.result ≡ true = c.ends_empty.ensures.1 (rw all.value h) in cc (empty, w.if-ends_empty.false)) ∙ whole
+          ∙ texts_with_last c.in_ok-lines.lines.items
+          (λ h. let empty : c.ends_empty.result ≡ true = c.ends_empty.ensures.1 (rw all.value h) in
+          cc (empty, w.if-ends_empty.false)) ∙ whole
     ]

@@ -6,4 +6,6 @@ use borrow.Author.Tests.{tests}
 use Rattle.daacfind_command.proofs.run.pieces.Goals as goal
 
 pub returns : goal.returns
-returns g c = map_from_collect _ c.collect.ensures.ran (YieldsList-from_slice_split _ (λ b. b == 10) c.args.file.now c.split.ensures.rest c.split.ensures.done c.split.ensures.closure (λ x b q k. search (rules, tests)))
+returns g c = map_from_collect _ c.collect.ensures.ran
+    (YieldsList-from_slice_split _ (λ b. b == 10) c.args.file.now c.split.ensures.rest c.split.ensures.done c.split.ensures.closure
+    (λ x b q k. search (rules, tests)))

@@ -11,7 +11,11 @@ one : (n : ℕ) → n < 10 → length (decimal n) ≡ 1
 one n h = ap length (decimal_digit n h)
 
 pub overflow_sub-at-in-loop-left : goal.overflow_sub-at-in-loop-left
-overflow_sub-at-in-loop-left c = omega (arith, more c.loop-left.left (omega arith) c.loop-left.auto.left-fits.fits, c.loop-left.invariant.room)
+overflow_sub-at-in-loop-left c = omega (
+  arith,
+  more c.loop-left.left (omega arith) c.loop-left.auto.left-fits.fits,
+  c.loop-left.invariant.room,
+)
 
 pub loop-left-preserved : goal.loop-left-preserved
 loop-left-preserved c =
@@ -23,7 +27,8 @@ loop-left-preserved c =
       within = set ∙ l.invariant.within;
       inside = omega (arith, set, l.invariant.inside);
       start = omega (arith, long, l.invariant.room, l.invariant.start);
-      written = rw (drop-set l.line (l.at - 1) _ (omega (arith, long, l.invariant.room, l.invariant.inside)), e) (rw (decimal_step l.left (omega arith) l.auto.left-fits.fits, append_assoc) at l.invariant.written);
+      written = rw (drop-set l.line (l.at - 1) _ (omega (arith, long, l.invariant.room, l.invariant.inside)), e)
+          (rw (decimal_step l.left (omega arith) l.auto.left-fits.fits, append_assoc) at l.invariant.written);
     }
 
 pub overflow_sub-at-2 : goal.overflow_sub-at-2
@@ -37,4 +42,5 @@ returns-clause-written c =
     let l = c.loop-left in
     let short = one l.left (omega arith) in
     let e : l.at - 1 + 1 ≡ l.at = omega (arith, short, l.invariant.room) in
-    rw (drop-set l.line (l.at - 1) _ (omega (arith, short, l.invariant.room, l.invariant.inside)), e) (rw (decimal_digit l.left (omega arith)) at l.invariant.written)
+    rw (drop-set l.line (l.at - 1) _ (omega (arith, short, l.invariant.room, l.invariant.inside)), e)
+    (rw (decimal_digit l.left (omega arith)) at l.invariant.written)

@@ -15,12 +15,15 @@ returns-in_err-write_whole-clause-beginning g c =
     let p = err_from_is_err_and c.from_residual.result c.from_residual.ensures.1 in
     rw p.1 (λ all y.
     let started = c.into_iter-found-iterator.ensures.into_iter_gives in
-    let text = text_goes_on g.I.Iterator.next_gives _ _ _ _ c.loop-found.yielded all c.loop-found.yielded_by c.in-Some.ensures.steps (rw started y) in
+    let text = text_goes_on g.I.Iterator.next_gives _ _ _ _ c.loop-found.yielded all c.loop-found.yielded_by c.in-Some.ensures.steps
+    (rw started y) in
     let line = line_of _ _ c.render-start.array_long ∙ c.render-start.ensures.written in
-    AppendsBeginning-more _ _ _ _ _ _ text.0 text.1 c.loop-found.invariant.written (subst (AppendsBeginning _ _) line c.in_err-write_whole.ensures.beginning))
+    AppendsBeginning-more _ _ _ _ _ _ text.0 text.1 c.loop-found.invariant.written
+    (subst (AppendsBeginning _ _) line c.in_err-write_whole.ensures.beginning))
 
 pub returns-clause-whole : goal.returns-clause-whole
 returns-clause-whole g c all y =
     let started = c.into_iter-found-iterator.ensures.into_iter_gives in
-    let e = text_whole g.I.Iterator.next_gives _ _ _ c.loop-found.yielded all c.loop-found.yielded_by c.in-None.ensures.steps (rw started y) in
+    let e = text_whole g.I.Iterator.next_gives _ _ _ c.loop-found.yielded all c.loop-found.yielded_by c.in-None.ensures.steps
+    (rw started y) in
     rw (← e) c.loop-found.invariant.written

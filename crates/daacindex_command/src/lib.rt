@@ -1,6 +1,0 @@
-//! The command of the program `daacindex`: writes the automaton of the lines of a file, and
-//! searches with one that was written. Its modes are those of `daacfind`.
-#![tactic(auto)]
-
-pub mod command;
-pub mod written;

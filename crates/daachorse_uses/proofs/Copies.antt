@@ -1,20 +1,24 @@
--- Where each call writes this text, it stands in place of each match.
-use Rattle.std.proofs.Common.{ℕ, List, Option, Result, Ok, Err}
+-- What was copied from a reader with a text in place of each match.
+use Rattle.std.proofs.Common.{ℕ, List, Option, Result, Ok, Err, subst}
 use Rattle.std.specs.Prelude.{OnOk}
-use Rattle.std.specs.Borrow.{MutBor}
+use Rattle.std.specs.Io.KnownBytes.{Appends}
+use Rattle.std.specs.declared.io.Error.{Error}
 use Rattle.daachorse_model.specs.declared.Match.{Match}
-use Rattle.daachorse_replacing.specs.Streams.{ReplacesRead}
-use Rattle.daachorse_replacing.proofs.Appended.{AppendsFor, IsReplaced-exact}
-use Rattle.daachorse_uses.specs.Copies.{IsCopiedWith}
+use Rattle.daachorse_model.specs.Dictionary.{Dictionary}
+use Rattle.daachorse_replacing.proofs.Appended.{IsReplaced-exact}
+use Rattle.daachorse_uses.specs.Copies.{CopiesRead, IsCopiedWith, WritesText}
 
-module _ {V P O E F : Type 0} (bytes : P → List ℕ) (taken : O → Option (List ℕ))
-    (step : F → Match V → P → MutBor O → Result (Unit {0}) E → MutBor O → F → Type 0) (text : Match V → List ℕ) where
-  pub IsCopied-replaced : (is_unit : ℕ → Type 0) (left : Option (List ℕ)) (matches : List ℕ → List (Match V)) (no_longer : ℕ → Type 0) {T : Type 0}
-      (r : Result T E) (f : F) (old new : O) → ReplacesRead bytes taken step is_unit (λ units. units) left matches no_longer r f old new
-      → ((haystack : List ℕ) → AppendsFor bytes taken haystack step text) → OnOk r (IsCopiedWith left matches text (taken old) (taken new))
-  IsCopied-replaced is_unit left matches no_longer (Ok x) f old new h exact = record {
+module _ {V O : Type 0} (K : Dictionary V) (known : Option (List ℕ)) (matches : List ℕ → List (Match V))
+    (part : Option (List ℕ) → Option (List ℕ) → List ℕ → Type 0) (taken : O → Option (List ℕ)) (text : Match V → List ℕ) where
+  -- with no error it is the text's copy, to its end
+  pub copied : (r : Result (Unit {0}) Error) (old new : O) → CopiesRead K known matches part taken text r old new
+      → OnOk r (IsCopiedWith known matches text (taken old) (taken new))
+  copied (Ok x) old new h = record {
     bytes = h.units;
     all = h.all;
-    copied = IsReplaced-exact bytes taken h.units step text (exact h.units) (matches h.units) f old new h.replaced;
+    copied = IsReplaced-exact (λ s. s.now) taken h.units (WritesText part taken text) text
+        (λ f m was is g may.
+        subst (λ o. Appends (taken was) (taken o) (text m)) may.5 (subst (λ o. Appends (taken o) (taken may.2.now) (text m)) may.4 may.6))
+        (matches h.units) tt old new h.replaced;
   }
-  IsCopied-replaced is_unit left matches no_longer (Err e) f old new h exact = tt
+  copied (Err e) old new h = tt

@@ -1,5 +1,12 @@
 pub mod Copies
 pub mod Covers
+pub mod Growing
+pub mod Listed
 pub mod Lookups
 pub mod Marks
+pub mod ReaderRuns
+pub mod ReadFound
 pub mod Readings
+pub mod Secrets
+pub mod Taken
+pub mod Weaker

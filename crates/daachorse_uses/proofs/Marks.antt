@@ -1,5 +1,6 @@
 -- The marks of a stream, one byte more: the standard search finds the match that ends there, if there is one.
-use Rattle.std.proofs.Common.{◌≡◌, ℕ, ◌+◌, ◌≤◌, ◌<◌, Bool, true, false, cond, List, [], ◌∷◌, ◌++◌, length, get_or, Option, Some, None, option_to_list, inl, inr, refl, sym, ap, ◌∙◌, subst, append-nil, append_assoc, length-append, arith}
+use Rattle.std.proofs.Common.{◌≡◌, ℕ, ◌+◌, ◌≤◌, ◌<◌, Bool, true, false, cond, List, [], ◌∷◌, ◌++◌, length, get_or, Option, Some, None}
+use Rattle.std.proofs.Common.{option_to_list, inl, inr, refl, sym, ap, ◌∙◌, subst, append-nil, length-append, arith}
 use Rattle.std.specs.Iterator.{Yields}
 use Rattle.std.specs.Iterator.Runs.{SomeRun, Trigger, WholeRun, YieldsRun}
 use Rattle.std.specs.List.{slice_get}
@@ -14,18 +15,18 @@ use Rattle.daachorse_model.specs.declared.Match.{Match}
 use Rattle.daachorse_model.specs.Dictionary.{Dictionary}
 use Rattle.daachorse_model.specs.Laws.{IsOccurrence}
 use Rattle.daachorse_model.specs.Folding.{as_read}
-use Rattle.daachorse_model.specs.Matches.{at_each_end, standard, standard_after}
+use Rattle.daachorse_model.specs.Matches.{standard, standard_after}
 use Rattle.daachorse_model.specs.Units.{byte_width}
 use Rattle.daachorse_model.proofs.Find.{standard_occur}
-use Rattle.daachorse_model.proofs.StandardEnds.{standard-joined}
-use Rattle.daachorse_bytewise.specs.Automata.{Automaton, dictionary_of, states_of}
 use Rattle.daachorse_uses.specs.Covered.{AreMarks, FitsIn, is_covered, is_within}
 use Rattle.daachorse_uses.proofs.Covers.{covered_more, fit_as_given, fits_in}
+use Rattle.daachorse_uses.proofs.Growing.{standard-push}
 use Rattle.daachorse_uses.proofs.Readings.{as_read-push}
 
 module _ {V : Type 0} where
   pub standard_fit : (K : Dictionary V) (h : List ℕ) → All (FitsIn (length h)) (standard byte_width K h)
-  standard_fit K h = All-weaker (IsOccurrence byte_width K h) (FitsIn (length h)) (fits_in K h) (standard byte_width K h) (standard_occur byte_width K h)
+  standard_fit K h =
+      All-weaker (IsOccurrence byte_width K h) (FitsIn (length h)) (fits_in K h) (standard byte_width K h) (standard_occur byte_width K h)
 
   -- so do those in a text as it is read
   read_fit : (K : Dictionary V) (folds : Bool) (h : List ℕ) → All (FitsIn (length h)) (standard byte_width K (as_read folds h))
@@ -33,49 +34,45 @@ module _ {V : Type 0} where
 
   -- no place past the ends of the matches lies in one
   uncovered : (n i : ℕ) (ms : List (Match V)) → All (FitsIn n) ms → n ≤ i → is_covered ms i ≡ false
-  uncovered n i ms all past = list_any_none (λ m. is_within m.start m.end i) ms (All-weaker (FitsIn n) (λ m. is_within m.start m.end i ≡ false) (λ m f. and_right _ _ (le-ltb i m.end (omega (arith, f.within)))) ms all)
+  uncovered n i ms all past =
+      list_any_none (λ m. is_within m.start m.end i) ms
+      (All-weaker (FitsIn n) (λ m. is_within m.start m.end i ≡ false)
+      (λ m f. and_right _ _ (le-ltb i m.end (omega (arith, f.within)))) ms all)
 
-at_each_end-push : {A : Type 0} (f : List ℕ → List A) (t w : List ℕ) (u : ℕ) → at_each_end f t (w ++ u ∷ []) ≡ at_each_end f t w ++ f (t ++ (w ++ u ∷ []))
-at_each_end-push f t [] u = refl
-at_each_end-push f t (v ∷ w) u =
-    ap (λ l. f t ++ l) (at_each_end-push f (t ++ v ∷ []) w u ∙ ap (λ x. at_each_end f (t ++ v ∷ []) w ++ f x) (append_assoc t (v ∷ []) (w ++ u ∷ [])))
-    ∙ sym (append_assoc (f t) (at_each_end f (t ++ v ∷ []) w) (f (t ++ (v ∷ w ++ u ∷ []))))
-
-module _ {V : Type 0} (K : Dictionary V) (xs : List ℕ) (u : ℕ) where
-  pub standard-push : standard byte_width K (xs ++ u ∷ []) ≡ standard byte_width K xs ++ option_to_list (standard_after byte_width K (xs ++ u ∷ []))
-  standard-push =
-      sym (standard-joined byte_width K (λ v. omega arith) (xs ++ u ∷ []))
-      ∙ at_each_end-push (λ t. option_to_list (standard_after byte_width K t)) [] xs u
-      ∙ ap (λ l. l ++ option_to_list (standard_after byte_width K (xs ++ u ∷ []))) (standard-joined byte_width K (λ v. omega arith) xs)
-
--- the same of a text as it is read
+-- a text as it is read, and one byte more
 module _ {V : Type 0} (K : Dictionary V) (folds : Bool) (xs : List ℕ) (u : ℕ) where
-  read-push : standard byte_width K (as_read folds (xs ++ u ∷ [])) ≡ standard byte_width K (as_read folds xs) ++ option_to_list (standard_after byte_width K (as_read folds (xs ++ u ∷ [])))
+  read-push : standard byte_width K (as_read folds (xs ++ u ∷ [])) ≡ standard byte_width K (as_read folds xs) ++ option_to_list
+      (standard_after byte_width K (as_read folds (xs ++ u ∷ [])))
   read-push =
       let more = as_read-push folds xs u in
-      subst (λ t. standard byte_width K t ≡ standard byte_width K (as_read folds xs) ++ option_to_list (standard_after byte_width K t)) (sym more.1) (standard-push K (as_read folds xs) more.0)
+      subst (λ t. standard byte_width K t ≡ standard byte_width K (as_read folds xs) ++ option_to_list (standard_after byte_width K t))
+      (sym more.1) (standard-push byte_width (λ v. omega arith) K (as_read folds xs) more.0)
 
   pub found_fits : (m : Match V) → Some m ≡ standard_after byte_width K (as_read folds (xs ++ u ∷ [])) → FitsIn (length (xs ++ u ∷ [])) m
   found_fits m is =
       let before = standard byte_width K (as_read folds xs) in
       let text = as_read folds (xs ++ u ∷ []) in
-      (All-pop (FitsIn (length (xs ++ u ∷ []))) (standard byte_width K text) before (Some m) (read-push ∙ ap (λ r. before ++ option_to_list r) (sym is)) (read_fit K folds (xs ++ u ∷ []))).1
+      (All-pop (FitsIn (length (xs ++ u ∷ []))) (standard byte_width K text) before (Some m)
+      (read-push ∙ ap (λ r. before ++ option_to_list r) (sym is)) (read_fit K folds (xs ++ u ∷ []))).1
 
   -- ---- marks
 
   module _ (marks : List Bool) (are : AreMarks (standard byte_width K (as_read folds xs)) (length xs) marks) where
-    pushed : (i : ℕ) → i < length (xs ++ u ∷ []) → get_or (marks ++ false ∷ []) i false ≡ is_covered (standard byte_width K (as_read folds xs)) i
+    pushed : (i : ℕ) → i < length (xs ++ u ∷ [])
+        → get_or (marks ++ false ∷ []) i false ≡ is_covered (standard byte_width K (as_read folds xs)) i
     pushed i inside = elim (cases_lt i (length xs)) [
       | inl before ↦ get_or_append_left marks (false ∷ []) false i (omega (arith, are.long, before)) ∙ are.marked i before
       | inr past ↦
           let at : i ≡ length marks = omega (arith, are.long, past, inside, length-append xs (u ∷ [])) in
-          get_or_at marks false [] false i (sym at) ∙ sym (uncovered (length xs) i (standard byte_width K (as_read folds xs)) (read_fit K folds xs) past)
+          get_or_at marks false [] false i (sym at)
+          ∙ sym (uncovered (length xs) i (standard byte_width K (as_read folds xs)) (read_fit K folds xs) past)
     ]
 
     pub longer : length (marks ++ false ∷ []) ≡ length (xs ++ u ∷ [])
     longer = length-append marks (false ∷ []) ∙ ap (λ n. n + 1) are.long ∙ sym (length-append xs (u ∷ []))
 
-    pub none_marked : None ≡ standard_after byte_width K (as_read folds (xs ++ u ∷ [])) → AreMarks (standard byte_width K (as_read folds (xs ++ u ∷ []))) (length (xs ++ u ∷ [])) (marks ++ false ∷ [])
+    pub none_marked : None ≡ standard_after byte_width K (as_read folds (xs ++ u ∷ []))
+        → AreMarks (standard byte_width K (as_read folds (xs ++ u ∷ []))) (length (xs ++ u ∷ [])) (marks ++ false ∷ [])
     none_marked is = record {
       long = longer;
       marked = λ i inside.
@@ -83,8 +80,10 @@ module _ {V : Type 0} (K : Dictionary V) (folds : Bool) (xs : List ℕ) (u : ℕ
           pushed i inside ∙ ap (λ ms. is_covered ms i) (sym (append-nil before) ∙ ap (λ r. before ++ option_to_list r) is ∙ sym read-push);
     }
 
-    pub some_marked : (m : Match V) (later : List Bool) → Some m ≡ standard_after byte_width K (as_read folds (xs ++ u ∷ [])) → length later ≡ length (marks ++ false ∷ [])
-        → ((i : ℕ) → i < length (marks ++ false ∷ []) → get_or later i false ≡ cond (is_within m.start m.end i) true (get_or (marks ++ false ∷ []) i false))
+    pub some_marked : (m : Match V) (later : List Bool) → Some m ≡ standard_after byte_width K (as_read folds (xs ++ u ∷ []))
+        → length later ≡ length (marks ++ false ∷ [])
+        → ((i : ℕ) → i < length (marks ++ false ∷ [])
+        → get_or later i false ≡ cond (is_within m.start m.end i) true (get_or (marks ++ false ∷ []) i false))
         → AreMarks (standard byte_width K (as_read folds (xs ++ u ∷ []))) (length (xs ++ u ∷ [])) later
     some_marked m later is long set = record {
       long = long ∙ longer;
@@ -96,14 +95,9 @@ module _ {V : Type 0} (K : Dictionary V) (folds : Bool) (xs : List ℕ) (u : ℕ
           ∙ ap (λ ms. is_covered ms i) (ap (λ r. before ++ option_to_list r) is ∙ sym read-push);
     }
 
--- what a stepper tells, in the words of the automaton that it borrows
-pub told : {V : Type 0} (one words : Automaton V) (read text : List ℕ) (r : Option (Match V)) → r ≡ standard_after byte_width (dictionary_of one) read
-    → states_of one ≡ states_of words → read ≡ text → r ≡ standard_after byte_width (dictionary_of words) text
-told one words read text r is parts same =
-    is ∙ ap (λ p. standard_after byte_width (dictionary_of (record words { parts = p })) read) parts ∙ ap (standard_after byte_width (dictionary_of words)) same
-
 -- calls that gave xs are a run
-pub some_run : {S X : Type 0} (steps : S → Option X → S → Type 0) (s t : S) (xs : List X) (P : List X → Type 0) → Yields steps s xs t → P xs → SomeRun steps s (λ p. P p.items)
+pub some_run : {S X : Type 0} (steps : S → Option X → S → Type 0) (s t : S) (xs : List X) (P : List X → Type 0) → Yields steps s xs t
+    → P xs → SomeRun steps s (λ p. P p.items)
 unfolding Trigger YieldsRun
 some_run steps s t xs P calls holds = (
   record {
@@ -122,7 +116,8 @@ some_run steps s t xs P calls holds = (
 )
 
 -- calls that gave xs, and then nothing, are a whole run
-pub whole_run : {S X : Type 0} (steps : S → Option X → S → Type 0) (s t u : S) (xs : List X) (P : List X → Type 0) → Yields steps s xs t → steps t None u → P xs → WholeRun steps s (λ p. P p.items)
+pub whole_run : {S X : Type 0} (steps : S → Option X → S → Type 0) (s t u : S) (xs : List X) (P : List X → Type 0) → Yields steps s xs t
+    → steps t None u → P xs → WholeRun steps s (λ p. P p.items)
 unfolding Trigger YieldsRun
 whole_run steps s t u xs P calls end holds = (
   record {

@@ -1,47 +1,46 @@
 //! Searches of what is read, where its length is not known.
-//!
-//! A stepper counts the bytes consumed in a `usize`. Before each unit the searches by a stepper ask
-//! whether its place still fits, which is the condition of `consume`.
 
-ghost use Rattle.std.specs.Prelude.{◌≡◌, OnOk, codes};
+ghost use Rattle.std.specs.Prelude.{◌≡◌, ◌⊎◌, IfErr, IfOk, IsErrAnd, OnOk, ⊤, codes};
 ghost use Rattle.std.specs.Iterator.{IsFinite};
 ghost use Rattle.daachorse_model.specs.declared.MatchKind.TheVariants.{Standard};
+ghost use Rattle.daachorse_model.specs.Folding.{as_read};
+ghost use Rattle.daachorse_model.specs.Matches.{overlapping, standard};
+ghost use Rattle.daachorse_model.specs.Units.{byte_width, char_width};
 ghost use Rattle.daachorse_bytewise.specs.Automata as bytes;
 ghost use Rattle.daachorse_charwise.specs.Automata as characters;
-ghost use Rattle.daachorse_uses.specs.Copies.{IsCopiedWith, in_brackets, matches_of};
+ghost use Rattle.daachorse_replacing.specs.Replaced.{AppendsBeginning};
+ghost use Rattle.daachorse_search.specs.Readers.{IsLasting};
+ghost use Rattle.daachorse_uses.specs.Copies.{CopiesRead, IsCopiedWith, in_brackets, matches_of};
+ghost use Rattle.daachorse_uses.specs.Found.{IsCountRead, IsFirstGiven, IsFirstRead};
+ghost use Rattle.daachorse_uses.specs.Secrets.{AreRefused, IsOfSecrets, IsSecretsRefusal, dictionary_in, secrets_found};
 
 use daachorse::{
     CharwiseDoubleArrayAhoCorasick, DoubleArrayAhoCorasick, DoubleArrayAhoCorasickBuilder, Match,
-    MatchKind,
+    MatchKind, Result,
 };
+use daachorse_replacing::appending::write_whole;
 use std::alloc::Global;
-use std::io::{self, ErrorKind, Read, Write};
+use std::io::{self, BufRead, Read, Write};
 
-/// Returns the match that ends first in what a reader gives, and reads no byte past it.
-pub fn first_in_reader<R: Read + Drop>(
+/// Returns the match that ends first in what a reader gives, and takes no byte after it.
+///
+/// Fails with the reader's error if that comes before a match.
+pub fn first_in_reader<R: BufRead + Drop>(
     words: &DoubleArrayAhoCorasick<u32>,
     reader: R,
 ) -> io::Result<Option<Match<u32>>>
     requires standard { bytes.kind_of words.now ≡ Standard }
+    ensures ok { IfOk result (IsFirstRead (R.remaining reader) (matches_of words.now)) }
+    ensures err { IfErr result IsLasting }
 {
-    let mut stepper = words.find_stepper();
-    if stepper.matches().is_some() {
-        return Ok(stepper.matches());
-    }
-    for byte in reader.bytes() {
-        if stepper.place() == usize::MAX {
-            return Err(io::Error::from(ErrorKind::FileTooLarge));
-        }
-        stepper.consume(byte?);
-        if stepper.matches().is_some() {
-            return Ok(stepper.matches());
-        }
-    }
-    Ok(None)
+    words.find_iter_from_reader(reader).next().transpose()
 }
 
 /// Returns the match that ends first among characters, and takes none past it. Returns `None` also
 /// where no match ends at a place that fits a `usize`.
+///
+/// A stepper counts the bytes consumed in a `usize`. Before each character this asks whether its
+/// place still fits, which is the condition of `consume`.
 pub fn first_in_characters<I: Iterator<Item = char> + Drop>(
     words: &CharwiseDoubleArrayAhoCorasick<u32>,
     source: I,
@@ -49,6 +48,7 @@ pub fn first_in_characters<I: Iterator<Item = char> + Drop>(
     requires standard { characters.kind_of words.now ≡ Standard }
     requires can { I.can_next source }
     requires ends { IsFinite (I.remaining source) }
+    ensures { IsFirstGiven I.next_gives source (λ text. standard char_width (characters.dictionary_of words.now) (as_read words.now.folds text)) result }
 {
     let mut stepper = words.find_stepper();
     if stepper.matches().is_some() {
@@ -68,15 +68,18 @@ pub fn first_in_characters<I: Iterator<Item = char> + Drop>(
 
 /// Returns how often the words occur in what a reader gives, overlapping ones included, up to
 /// `usize::MAX`.
-pub fn count_in_reader<R: Read + Drop>(
+///
+/// Fails with the reader's error.
+pub fn count_in_reader<R: BufRead + Drop>(
     words: &DoubleArrayAhoCorasick<u32>,
-    alloc: Global,
     reader: R,
 ) -> io::Result<usize>
     requires standard { bytes.kind_of words.now ≡ Standard }
+    ensures ok { IfOk result (IsCountRead (R.remaining reader) (λ text. overlapping byte_width (bytes.dictionary_of words.now) (as_read words.now.folds text))) }
+    ensures err { IfErr result IsLasting }
 {
     let mut count = 0usize;
-    for found in words.find_overlapping_iter_from_reader(alloc, reader)? {
+    for found in words.find_overlapping_iter_from_reader(reader) {
         found?;
         count = count.saturating_add(1);
     }
@@ -91,7 +94,8 @@ pub fn name_matches<R: Read + Drop, W: Write>(
     out: &mut W,
 ) -> io::Result<()>
     requires standard { bytes.kind_of words.now ≡ Standard }
-    ensures { OnOk result (IsCopiedWith (R.remaining reader) (matches_of words.now) (λ m. in_brackets m.value) (W.contents out.old) (W.contents out.new)) }
+    ensures copied { OnOk result (IsCopiedWith (R.remaining reader) (matches_of words.now) (λ m. in_brackets m.value) (W.contents out.old) (W.contents out.new)) }
+    ensures copies { CopiesRead (bytes.dictionary_of words.now) (R.remaining reader) (matches_of words.now) (λ old new text. ⊤) W.contents (λ m. in_brackets m.value) result out.old out.new }
 {
     words.replace_all_from_reader(alloc, reader, out, |found, _matched, out| {
         write!(out, "[{}]", found.value())
@@ -105,24 +109,38 @@ pub fn redact_log<R: Read + Drop, W: Write>(
     alloc: Global,
     log: R,
     out: &mut W,
-) -> io::Result<()> {
-    let secrets = secrets.lines().filter(|line| !line.is_empty());
-    let words: DoubleArrayAhoCorasick<u32> = DoubleArrayAhoCorasickBuilder::new()
+) -> io::Result<()>
+    ensures copied { OnOk result (IsCopiedWith (R.remaining log) (secrets_found secrets.now) (λ m. codes "[...]") (W.contents out.old) (W.contents out.new)) }
+    ensures copies { (IsErrAnd result (AreRefused secrets.now) × (W.contents out.new ≡ W.contents out.old))
+        ⊎ CopiesRead (dictionary_in secrets.now) (R.remaining log) (secrets_found secrets.now) AppendsBeginning W.contents (λ m. codes "[...]") result out.old out.new }
+{
+    redact_reader(&automaton_of(alloc, secrets)?, alloc, log, out)
+}
+
+/// An automaton of the secrets that a text lists.
+fn automaton_of(alloc: Global, secrets: &str) -> Result<DoubleArrayAhoCorasick<u32>>
+    ensures ok { IfOk result (IsOfSecrets secrets.now) }
+    ensures err { IfErr result (IsSecretsRefusal secrets.now) }
+{
+    let lines = secrets.lines().filter(|line| !line.is_empty());
+    DoubleArrayAhoCorasickBuilder::new()
         .match_kind(MatchKind::LeftmostLongest)
-        .build(alloc, secrets.map(|line| line.as_bytes()))?;
-    redact_reader(&words, alloc, log, out)
+        .build(alloc, lines.map(|line| line.as_bytes()))
 }
 
 /// Copies what a reader gives to `out`, with `[...]` in place of each match.
+///
+/// At an error a prefix of the copy was written, whatever the reader would have given next.
 pub fn redact_reader<R: Read + Drop, W: Write>(
     words: &DoubleArrayAhoCorasick<u32>,
     alloc: Global,
     reader: R,
     out: &mut W,
 ) -> io::Result<()>
-    ensures { OnOk result (IsCopiedWith (R.remaining reader) (matches_of words.now) (λ m. codes "[...]") (W.contents out.old) (W.contents out.new)) }
+    ensures copied { OnOk result (IsCopiedWith (R.remaining reader) (matches_of words.now) (λ m. codes "[...]") (W.contents out.old) (W.contents out.new)) }
+    ensures copies { CopiesRead (bytes.dictionary_of words.now) (R.remaining reader) (matches_of words.now) AppendsBeginning W.contents (λ m. codes "[...]") result out.old out.new }
 {
     words.replace_all_from_reader(alloc, reader, out, |_found, _secret, out| {
-        out.write_all(b"[...]")
+        write_whole(out, b"[...]")
     })
 }

@@ -1,6 +1,6 @@
 //! Searches of what a reader gives that is slow, interrupted, no text, or fails in the middle.
 
-use crate::automata::{Automaton, BUILT, Bytewise, Charwise, LONGEST, Patvals};
+use crate::automata::{Automaton, BUILT, Bytewise, Charwise, LONGEST, Patvals, Way};
 use crate::expect_over;
 use crate::finding::Found;
 use std::alloc::Global;
@@ -189,6 +189,27 @@ fn an_error_comes_after_what_is_certain(rt: HostRuntime) -> Result<(), Fail> {
     for row in &CERTAIN_OF_CHARACTERS {
         let holds = is_certain::<Charwise>(rt.alloc(), row)?;
         expect_over(&rt, holds, "secrets", "characters");
+    }
+    Ok(())
+}
+
+/// Whether no byte of a secret goes out that the reader's error cuts off.
+fn is_kept_back<S: Automaton<Alloc = Global>>(alloc: Global, way: Way) -> io::Result<bool> {
+    let words = S::built(alloc, way, SECRETS)?;
+    let mut out = Vec::new(alloc);
+    let reader = slowly(b"my secret is secr", RESET);
+    let outcome = words.brackets(alloc, reader, &mut out);
+    let error = outcome.err().map(|error| error.kind());
+    Ok(error == RESET && out.as_slice() == b"my [secret]".as_slice())
+}
+
+#[test]
+fn a_secret_that_an_error_cuts_off_is_kept_back(rt: HostRuntime) -> Result<(), Fail> {
+    for way in [BUILT, LONGEST] {
+        let holds = is_kept_back::<Bytewise>(rt.alloc(), way)?;
+        expect_over(&rt, holds, "a secret that is cut off", "bytes");
+        let holds = is_kept_back::<Charwise>(rt.alloc(), way)?;
+        expect_over(&rt, holds, "a secret that is cut off", "characters");
     }
     Ok(())
 }

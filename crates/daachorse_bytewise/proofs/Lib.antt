@@ -2,4 +2,3 @@ pub use Rattle.daachorse_core.proofs.Refusals
 pub use Rattle.daachorse_replacing.proofs.Sending
 pub use Rattle.daachorse_search.proofs.MatchesLaws
 pub mod WrittenLaws
-pub mod RowedLaws

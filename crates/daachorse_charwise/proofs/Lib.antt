@@ -3,5 +3,4 @@ pub mod CodedLaws
 pub mod BuildLaws
 pub mod TextLaws
 pub use Rattle.daachorse_search.proofs.MatchesLaws
-pub mod RowedLaws
 pub mod Beginnings

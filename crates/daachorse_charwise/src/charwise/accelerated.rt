@@ -38,7 +38,8 @@ pub type RowedLeftmost<'a, V> = RowView<'a, V, states::LeftmostForRows<'a, V>>;
 /// A row gives for each ASCII character, and each other that is among the 510 most frequent of the
 /// patterns, the state at which the whole step ends, so that a search takes one look for each such
 /// character while it stays in rows, and follows no failure link. If no step leaves the rows, each
-/// standard search and stepper takes at most one turn for each character.
+/// standard search and stepper takes at most one turn for each character. Steppers
+/// report no depths.
 pub type Accelerated<V, A = Global> = AhoCorasick<Rowed<V, A>>;
 
 /// An automaton, the rows of its states near the root, and the buckets of its patterns, if there

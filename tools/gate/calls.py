@@ -43,7 +43,7 @@ FILES = {
                   "daachorse_streams/src/leftmost_standing.rt"],
     "daachorse::errors": ["daachorse_core/src/errors.rt"],
     "daachorse::laws": ["daachorse_model/src/laws.rt"],
-    "daachorse::serializer": ["daachorse_serializer/src/serializer.rt"],
+    "daachorse::serializer": ["daachorse_serializer/src/serializer.rt", "daachorse_serializer/src/lists.rt"],
     "daactok": ["daactok/src/lib.rt"],
 }
 CLAUSE = re.compile(r"\s*(requires|ensures|ghost)\b")

@@ -3,7 +3,9 @@
 
 pub mod ending;
 pub mod intpack;
+pub mod lists;
 pub mod mode;
+pub mod numbers;
 pub mod serializer;
 pub mod values;
 pub mod words;

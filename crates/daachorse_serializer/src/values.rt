@@ -1,15 +1,22 @@
-//! Written forms of pairs and triples, and of `bool`, `char` and `usize`.
+//! Written forms of `bool`, `char`, `usize`, kinds and outputs, and of pairs, triples and options.
+#![tactic(auto, using(daachorse_core::proofs::Failures::failures))]
 
-ghost use Rattle.std.specs.Prelude.{◌<◌, ◌^◌, ◌+◌};
+ghost use Rattle.std.specs.Prelude.{◌≡◌, ◌<◌, ◌^◌, ◌+◌, [], Some, IfErr, IfSome, refl};
 ghost use Rattle.std.specs.Char.{IsScalar};
 ghost use Rattle.std.specs.Int.{w64};
-ghost use Rattle.daachorse_serializer.specs.Forms.{number_form, pair_form, take_number, take_pair};
-ghost use Rattle.daachorse_serializer.specs.Laws.{bool_law, char_law, number_law, pair_law, triple_law};
+ghost use Rattle.daachorse_core.specs.declared.errors.DaachorseError.TheVariants.{InvalidAutomaton};
+ghost use Rattle.daachorse_serializer.specs.Forms.{Gives, IsOfPayload, IsOfValue, number_form, option_form, pair_form, take_number, take_option, take_pair};
+ghost use Rattle.daachorse_serializer.specs.Kinds.{kind_form, take_kind};
+ghost use Rattle.daachorse_serializer.specs.Laws.{bool_law, char_law, empty_law, kind_law, number_law, option_law, output_law, pair_law, triple_law};
+ghost use Rattle.daachorse_serializer.specs.Outputs.{IsOutput, output_form, take_output};
 ghost use Rattle.daachorse_serializer.specs.Values.{IsOfPair, bool_form, char_form, take_bool, take_char, take_triple, triple_form};
 
-use crate::serializer::Serializable;
+use crate::serializer::{Serializable, append};
+use crate::words::two_words;
 use daachorse_core::errors::{DaachorseError, Result};
+use daachorse_core::{Empty, MatchKind, Output};
 use std::alloc::Allocator;
+use std::num::NonZeroU32;
 
 /// A byte: 0 is `false` and 1 `true`. Every other byte is refused.
 impl Serializable for bool {
@@ -175,4 +182,154 @@ impl<S: Serializable, T: Serializable, U: Serializable> Serializable for (S, T, 
     }
 
     ghost law = { triple_law S.law T.law U.law };
+}
+
+impl Serializable for Empty {
+    ghost is_value = { λ _. Unit {0} };
+
+    ghost form = { λ _. [] };
+
+    ghost taken = { λ bytes. Some (record {}, bytes) };
+
+    ghost form_len = { 0 };
+
+    #[inline(always)]
+    fn serialize_to_vec<A: Allocator>(&self, _dst: &mut Vec<u8, A>) -> Result<()> {
+        Ok(())
+    }
+
+    #[inline(always)]
+    fn deserialize_from_slice(src: &[u8]) -> Result<(Self, &[u8])>
+        ensures { result ≡ Ok (record {}, src.entry) }
+    {
+        Ok((Empty, src))
+    }
+
+    fn serialized_bytes() -> usize
+        ensures { result ≡ 0 }
+    {
+        0
+    }
+
+    fn in_range(&self) {}
+
+    ghost law = { empty_law (record {}) (λ y. refl) };
+}
+
+impl Serializable for MatchKind {
+    ghost is_value = { λ _. Unit {0} };
+
+    ghost form = { kind_form };
+
+    ghost taken = { take_kind };
+
+    ghost form_len = { 1 };
+
+    #[inline(always)]
+    fn serialize_to_vec<A: Allocator>(&self, dst: &mut Vec<u8, A>) -> Result<()> {
+        Ok(dst.push(u8::from(*self))?)
+    }
+
+    #[inline(always)]
+    fn deserialize_from_slice(src: &[u8]) -> Result<(Self, &[u8])>
+        ensures given { Gives result (take_kind src.now) }
+        ensures err { IfErr result (λ e. e ≡ InvalidAutomaton (record {})) }
+    {
+        let (byte, rest) = u8::deserialize_from_slice(src)?;
+        Ok((MatchKind::from(byte), rest))
+    }
+
+    fn serialized_bytes() -> usize
+        ensures { result ≡ 1 }
+    {
+        u8::serialized_bytes()
+    }
+
+    fn in_range(&self) {}
+
+    ghost law = { kind_law };
+}
+
+/// The value, the length, and the parent.
+impl<V: Serializable + Copy> Serializable for Output<V> {
+    ghost is_value = { IsOutput V.is_value };
+
+    ghost form = { output_form V.form };
+
+    ghost taken = { take_output V.taken };
+
+    ghost form_len = { V.form_len + 8 };
+
+    ghost own_refusal = { IsOfValue V.taken V.own_refusal };
+
+    fn serialize_to_vec<A: Allocator>(&self, dst: &mut Vec<u8, A>) -> Result<()> {
+        self.value().serialize_to_vec(dst)?;
+        let parent = self.parent().map_or(0, NonZeroU32::get);
+        append(dst, &two_words(self.length(), parent))
+    }
+
+    fn deserialize_from_slice(src: &[u8]) -> Result<(Self, &[u8])> {
+        let (value, rest) = V::deserialize_from_slice(src)?;
+        let (length, rest) = u32::deserialize_from_slice(rest)?;
+        let (parent, rest) = u32::deserialize_from_slice(rest)?;
+        Ok((Output::new(value, length, NonZeroU32::new(parent)), rest))
+    }
+
+    fn serialized_bytes() -> usize {
+        V::serialized_bytes().saturating_add(8)
+    }
+
+    fn in_range(&self) {
+        self.value().in_range();
+        let _length = self.length();
+        let _parent = self.parent();
+    }
+
+    ghost law = { output_law V.law };
+}
+
+/// A byte 0, or a byte 1 and the value.
+impl<S: Serializable> Serializable for Option<S> {
+    ghost is_value = { λ v. IfSome v S.is_value };
+
+    ghost form = { option_form S.form };
+
+    ghost taken = { take_option S.taken };
+
+    ghost form_len = { S.form_len + 1 };
+
+    ghost own_refusal = { IsOfPayload S.own_refusal };
+
+    fn serialize_to_vec<A: Allocator>(&self, dst: &mut Vec<u8, A>) -> Result<()> {
+        match self {
+            None => Ok(dst.push(0)?),
+            Some(value) => {
+                dst.push(1)?;
+                value.serialize_to_vec(dst)
+            }
+        }
+    }
+
+    fn deserialize_from_slice(src: &[u8]) -> Result<(Self, &[u8])> {
+        match src {
+            [0, rest @ ..] => Ok((None, rest)),
+            [1, rest @ ..] => {
+                let (value, rest) = S::deserialize_from_slice(rest)?;
+                Ok((Some(value), rest))
+            }
+            _ => Err(DaachorseError::invalid_automaton()),
+        }
+    }
+
+    fn serialized_bytes() -> usize {
+        S::serialized_bytes().saturating_add(1)
+    }
+
+    fn in_range(&self) {
+        if let Some(value) = self {
+            value.in_range();
+        }
+    }
+
+    ghost law = { option_law S.law };
 }

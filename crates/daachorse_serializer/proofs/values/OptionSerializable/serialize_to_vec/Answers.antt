@@ -1,7 +1,7 @@
 -- The first byte tells whether a value follows, and its form stands behind it.
 use Rattle.std.proofs.Common.{arith}
 use Rattle.std.proofs.lemmas.Grind.{common_steps}
-use Rattle.daachorse_serializer.proofs.serializer.OptionSerializableVec.serialize_to_vec.Goals as goal
+use Rattle.daachorse_serializer.proofs.values.OptionSerializable.serialize_to_vec.Goals as goal
 
 pub returns-in_ok-push-in-Some-clause-written : goal.returns-in_ok-push-in-Some-clause-written
 returns-in_ok-push-in-Some-clause-written g c = grind (arith, common_steps)

@@ -1,7 +1,7 @@
--- The forms of the fields stand behind one another.
+-- The number of the items stands before their forms.
 use Rattle.std.proofs.Common.{arith}
 use Rattle.std.proofs.lemmas.Grind.{common_steps}
-use Rattle.daachorse_serializer.proofs.serializer.OutputSerializable.serialize_to_vec.Goals as goal
+use Rattle.daachorse_serializer.proofs.lists.VecSerializableVec.serialize_to_vec.Goals as goal
 
 pub returns-clause-written : goal.returns-clause-written
 returns-clause-written g c = grind (arith, common_steps)

@@ -1,5 +1,6 @@
 -- What each step of the builder of buckets opens, and that a pattern's window passes where all of its bits are open.
-use Rattle.std.proofs.Common.{◌≡◌, ◌≢◌, ◌⊎◌, inl, inr, ℕ, suc, ◌+◌, ◌-◌, ◌*◌, ◌/◌, ◌%◌, ◌^◌, ◌<◌, ◌≤◌, Bool, true, false, ◌&&◌, List, ◌++◌, length, get_or, map, set, refl, sym, ap, ◌∙◌, arith, get_or-set_same, get_or-set_other}
+use Rattle.std.proofs.Common.{◌≡◌, ◌≢◌, ◌⊎◌, inl, inr, ℕ, suc, ◌+◌, ◌-◌, ◌*◌, ◌/◌, ◌%◌, ◌^◌, ◌<◌, ◌≤◌, Bool, true, false, ◌&&◌, List, ◌++◌}
+use Rattle.std.proofs.Common.{length, get_or, map, set, refl, sym, ap, ◌∙◌, arith, get_or-set_same, get_or-set_other}
 use Rattle.std.specs.Prelude.{◌==◌, ◌||◌, nat_le, bit_and, bit_or}
 use Rattle.std.specs.Int.{bit_not, w64}
 use Rattle.std.proofs.lemmas.Bool.{and_from, cases_eq, cases_lt, eq-eqb, le-leb}
@@ -42,23 +43,29 @@ in_bit false u s = refl
 -- ---- what a step opens
 
 -- a bit of an entry that has joined the mask
-pub closed_at : (entries : List ℕ) (mask y i : ℕ) → y < length entries → is_clear_at (map (λ e. bit_and e mask) entries) y i ≡ is_open entries mask y i
-closed_at entries mask y i h = ap (λ n. is_clear n i) (get_or-map (λ e. bit_and e mask) entries y 0 0 h) ∙ is_clear-and (get_or entries y 0) mask i
+pub closed_at : (entries : List ℕ) (mask y i : ℕ) → y < length entries
+    → is_clear_at (map (λ e. bit_and e mask) entries) y i ≡ is_open entries mask y i
+closed_at entries mask y i h = ap (λ n. is_clear n i) (get_or-map (λ e. bit_and e mask) entries y 0 0 h)
+    ∙ is_clear-and (get_or entries y 0) mask i
 
 -- a bit of one entry
 pub unset_opens : (entries : List ℕ) (x bit y i : ℕ) → x < length entries → bit < 64 → i < 64
-    → is_clear (get_or (set entries x (bit_and (get_or entries x 0) (bit_not w64 (1 * 2 ^ bit % 2 ^ 64)))) y 0) i ≡ (is_clear (get_or entries y 0) i || ((i == bit) && (y == x)))
+    → is_clear (get_or (set entries x (bit_and (get_or entries x 0) (bit_not w64 (1 * 2 ^ bit % 2 ^ 64)))) y 0) i
+        ≡ (is_clear (get_or entries y 0) i || ((i == bit) && (y == x)))
 unset_opens entries x bit y i inside h within = by (eqb_tells y x)
   where
     new : ℕ
     new = bit_and (get_or entries x 0) (bit_not w64 (1 * 2 ^ bit % 2 ^ 64))
 
-    by : ((y == x) ≡ true) × (y ≡ x) ⊎ ((y == x) ≡ false) × (y ≢ x) → is_clear (get_or (set entries x new) y 0) i ≡ (is_clear (get_or entries y 0) i || ((i == bit) && (y == x)))
+    by : ((y == x) ≡ true) × (y ≡ x) ⊎ ((y == x) ≡ false) × (y ≢ x)
+        → is_clear (get_or (set entries x new) y 0) i ≡ (is_clear (get_or entries y 0) i || ((i == bit) && (y == x)))
     by (inl (test, same)) =
         ap (λ z. is_clear (get_or (set entries x new) z 0) i) same ∙ ap (λ n. is_clear n i) (get_or-set_same entries x new 0 inside)
-        ∙ is_clear_unset (get_or entries x 0) bit i h within ∙ ap (λ b. is_clear (get_or entries x 0) i || b) (sym (and_true (i == bit) (y == x) test))
+        ∙ is_clear_unset (get_or entries x 0) bit i h within
+            ∙ ap (λ b. is_clear (get_or entries x 0) i || b) (sym (and_true (i == bit) (y == x) test))
         ∙ ap (λ z. is_clear (get_or entries z 0) i || ((i == bit) && (y == x))) (sym same)
-    by (inr (test, other)) = ap (λ n. is_clear n i) (get_or-set_other entries x y new 0 other) ∙ sym (or_and_false (is_clear (get_or entries y 0) i) (i == bit) (y == x) test)
+    by (inr (test, other)) = ap (λ n. is_clear n i) (get_or-set_other entries x y new 0 other)
+        ∙ sym (or_and_false (is_clear (get_or entries y 0) i) (i == bit) (y == x) test)
 
 fits_not : (n m : ℕ) → m < n → nat_le n m ≡ false
 fits_not n m h = grind (arith, nat_tests)
@@ -67,11 +74,13 @@ other_than : (n m : ℕ) → n ≢ m → (n == m) ≡ false
 other_than n m h = grind (arith, nat_tests)
 
 module _ (pattern : List ℕ) (k y : ℕ) where
-  pub three_slots : k + 3 ≤ length pattern → has_slot pattern k y ≡ (y == slot (get_or pattern k 0) (get_or pattern (k + 1) 0) (get_or pattern (k + 2) 0))
+  pub three_slots : k + 3 ≤ length pattern → has_slot pattern k y
+      ≡ (y == slot (get_or pattern k 0) (get_or pattern (k + 1) 0) (get_or pattern (k + 2) 0))
   unfolding has_slot
   three_slots h = let fits : nat_le (k + 3) (length pattern) ≡ true = le-leb (k + 3) (length pattern) h in rw fits refl
 
-  pub two_slots : k + 2 ≡ length pattern → has_slot pattern k y ≡ some_below (λ c. y == slot (get_or pattern k 0) (get_or pattern (k + 1) 0) c) 256
+  pub two_slots : k + 2 ≡ length pattern → has_slot pattern k y ≡ some_below
+      (λ c. y == slot (get_or pattern k 0) (get_or pattern (k + 1) 0) c) 256
   unfolding has_slot
   two_slots h =
       let short : nat_le (k + 3) (length pattern) ≡ false = fits_not (k + 3) (length pattern) (omega arith) in
@@ -90,11 +99,13 @@ pub opens_three : (old new m t s y : Bool) → new ≡ (old || (t && s)) → y �
 opens_three old new m t s y is e = ap (λ b. b || m) is ∙ last_first old (t && s) m ∙ ap (λ b. (old || m) || (t && b)) (sym e)
 
 -- one third byte more
-pub opens_byte : (old cur new t : Bool) (f : ℕ → Bool) (n : ℕ) → cur ≡ (old || (t && some_below f n)) → new ≡ (cur || (t && f n)) → new ≡ (old || (t && some_below f (n + 1)))
+pub opens_byte : (old cur new t : Bool) (f : ℕ → Bool) (n : ℕ) → cur ≡ (old || (t && some_below f n)) → new ≡ (cur || (t && f n))
+    → new ≡ (old || (t && some_below f (n + 1)))
 unfolding some_below
 opens_byte old cur new t f n before is =
     let next : suc n ≡ n + 1 = omega arith in
-    is ∙ ap (λ b. b || (t && f n)) before ∙ one_more old (t && some_below f n) (t && f n) ∙ ap (λ b. old || b) (in_bit t (f n) (some_below f n)) ∙ ap (λ m. old || (t && some_below f m)) next
+    is ∙ ap (λ b. b || (t && f n)) before ∙ one_more old (t && some_below f n) (t && f n)
+        ∙ ap (λ b. old || b) (in_bit t (f n) (some_below f n)) ∙ ap (λ m. old || (t && some_below f m)) next
 
 -- no third byte yet
 pub opens_none : (old t : Bool) (f : ℕ → Bool) → old ≡ (old || (t && some_below f 0))
@@ -106,21 +117,24 @@ pub opens_any : (p m t y n : Bool) → n ≡ (m || t) → y ≡ true → (p || n
 opens_any true m t y n is e = refl
 opens_any false m t y n is e = is ∙ ap (λ b. m || b) (sym (and_true t y e))
 
--- one place more
+-- one offset more
 module _ (pattern : List ℕ) (bucket : ℕ) where
   pub opens_first : (y i : ℕ) (old : Bool) → old ≡ (old || opens pattern bucket 0 y i)
   unfolding opens some_below
   opens_first y i true = refl
   opens_first y i false = refl
 
-  pub opens_next : (k y i : ℕ) (old cur new : Bool) → cur ≡ (old || opens pattern bucket k y i) → new ≡ (cur || ((i == 56 - 8 * k + bucket) && has_slot pattern k y)) → new ≡ (old || opens pattern bucket (k + 1) y i)
+  pub opens_next : (k y i : ℕ) (old cur new : Bool) → cur ≡ (old || opens pattern bucket k y i)
+      → new ≡ (cur || ((i == 56 - 8 * k + bucket) && has_slot pattern k y)) → new ≡ (old || opens pattern bucket (k + 1) y i)
   unfolding opens some_below
   opens_next k y i old cur new before is =
       let next : suc k ≡ k + 1 = omega arith in
-      is ∙ ap (λ b. b || ((i == 56 - 8 * k + bucket) && has_slot pattern k y)) before ∙ one_more old (opens pattern bucket k y i) ((i == 56 - 8 * k + bucket) && has_slot pattern k y)
+      is ∙ ap (λ b. b || ((i == 56 - 8 * k + bucket) && has_slot pattern k y)) before
+          ∙ one_more old (opens pattern bucket k y i) ((i == 56 - 8 * k + bucket) && has_slot pattern k y)
       ∙ ap (λ m. old || opens pattern bucket m y i) next
 
-  pub opens_all : (k y i : ℕ) (old new : Bool) → k ≡ 8 → new ≡ (old || opens pattern bucket k y i) → new ≡ (old || opens pattern bucket 8 y i)
+  pub opens_all : (k y i : ℕ) (old new : Bool) → k ≡ 8 → new ≡ (old || opens pattern bucket k y i)
+      → new ≡ (old || opens pattern bucket 8 y i)
   opens_all k y i old new whole is = is ∙ ap (λ n. old || opens pattern bucket n y i) whole
 
 -- ---- a pattern whose bits are open
@@ -146,7 +160,8 @@ own_slot pattern rest k = by (cases_lt (length pattern) (k + 3)) (cases_eq (k + 
     at : (j : ℕ) → j < length pattern → get_or w j 0 ≡ get_or pattern j 0
     at j h = get_or_append_left pattern rest 0 j h
 
-    by : (length pattern < k + 3) ⊎ (k + 3 ≤ length pattern) → (k + 2 ≡ length pattern) ⊎ (k + 2 ≡ length pattern → ⊥) → has_slot pattern k (slot_at w k) ≡ true
+    by : (length pattern < k + 3) ⊎ (k + 3 ≤ length pattern) → (k + 2 ≡ length pattern) ⊎ (k + 2 ≡ length pattern → ⊥)
+        → has_slot pattern k (slot_at w k) ≡ true
     by (inr long) which =
         three_slots pattern k (slot_at w k) long
         ∙ eq-eqb _ _ (slot_same _ _ _ _ _ _ (at k (omega arith)) (at (k + 1) (omega arith)) (at (k + 2) (omega arith)))
@@ -154,7 +169,8 @@ own_slot pattern rest k = by (cases_lt (length pattern) (k + 3)) (cases_eq (k + 
         let third = get_or w (k + 2) 0 in
         two_slots pattern k (slot_at w k) two
         ∙ some_below-found (λ c. slot_at w k == slot (get_or pattern k 0) (get_or pattern (k + 1) 0) c) 256 (third % 256) (omega arith)
-        (eq-eqb _ _ (slot_same _ _ _ _ _ third (at k (omega arith)) (at (k + 1) (omega arith)) refl ∙ slot_low (get_or pattern k 0) (get_or pattern (k + 1) 0) third))
+        (eq-eqb _ _ (slot_same _ _ _ _ _ third (at k (omega arith)) (at (k + 1) (omega arith)) refl
+            ∙ slot_low (get_or pattern k 0) (get_or pattern (k + 1) 0) third))
     by (inl short) (inr fewer) = any_slots pattern k (slot_at w k) (let apart : k + 2 ≢ length pattern = fewer in omega arith)
 
 -- wherever a pattern begins that is marked, its bucket lets the window pass

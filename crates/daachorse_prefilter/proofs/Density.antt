@@ -1,4 +1,4 @@
--- A place has at most 65,536 pairs, so only the product over all eight places can pass 128 bits, and it is then too large.
+-- An offset has at most 65,536 pairs, so only the product over all eight offsets can pass 128 bits, and it is then too large.
 use Rattle.std.proofs.Common.{◌≡◌, ℕ, suc, ◌+◌, ◌-◌, ◌*◌, ◌^◌, ◌<◌, ◌≤◌, ◌⊎◌, false, List, length, sym, ap, ◌∙◌, inl, inr, arith}
 use Rattle.std.proofs.lemmas.Nat.{pow-add, mul-le, pow_below}
 use Rattle.std.proofs.lemmas.Bool.{cases_lt, lt-leb}
@@ -9,17 +9,20 @@ use Rattle.daachorse_prefilter.specs.Building.{count_clear, count_ways, is_spars
 pub ways_more : (entries : List ℕ) (k : ℕ) → count_ways entries (k + 1) ≡ count_ways entries k * count_clear entries k
 ways_more entries k = ap (λ n. count_ways entries n) (let e : k + 1 ≡ suc k = omega arith in e)
 
-pub few_ways : (entries : List ℕ) (k ways count : ℕ) → length entries ≡ 65536 → ways ≤ 2 ^ (16 * k) → count ≡ count_clear entries k → ways * count ≤ 2 ^ (16 * (k + 1))
+pub few_ways : (entries : List ℕ) (k ways count : ℕ) → length entries ≡ 65536 → ways ≤ 2 ^ (16 * k) → count ≡ count_clear entries k
+    → ways * count ≤ 2 ^ (16 * (k + 1))
 few_ways entries k ways count size low e =
     let few : count ≤ 2 ^ 16 = omega (arith, count_by-le-length (λ b. is_clear b k) entries) in
     let exponent : 16 * (k + 1) ≡ 16 * k + 16 = omega arith in
     rw (exponent, pow-add) (mul-le ways count (2 ^ (16 * k)) (2 ^ 16) low few)
 
 pow_le : (i j : ℕ) → i ≤ j → 2 ^ i ≤ 2 ^ j
-pow_le i j h = elim (cases_lt i j) [ inl less ↦ (let p = pow_below i j less in omega arith) | inr most ↦ (let e : i ≡ j = omega arith in rw e (let q : 2 ^ j ≤ 2 ^ j = omega arith in q)) ]
+pow_le i j h = elim (cases_lt i j) [ inl less ↦ (let p = pow_below i j less in omega arith) | inr most ↦
+    (let e : i ≡ j = omega arith in rw e (let q : 2 ^ j ≤ 2 ^ j = omega arith in q)) ]
 
--- a product that is too large for 128 bits is that of all eight places
-pub too_many : (entries : List ℕ) (k n ways count : ℕ) → length entries ≡ 65536 → k < n → n ≤ 8 → ways ≡ count_ways entries k → ways ≤ 2 ^ (16 * k) → count ≡ count_clear entries k → 2 ^ 128 ≤ ways * count → is_sparse entries n ≡ false
+-- a product that is too large for 128 bits is that of all eight offsets
+pub too_many : (entries : List ℕ) (k n ways count : ℕ) → length entries ≡ 65536 → k < n → n ≤ 8 → ways ≡ count_ways entries k
+    → ways ≤ 2 ^ (16 * k) → count ≡ count_clear entries k → 2 ^ 128 ≤ ways * count → is_sparse entries n ≡ false
 too_many entries k n ways count size less most is low e large =
     let few = few_ways entries k ways count size low e in
     by (cases_lt k 7) few

@@ -1,5 +1,7 @@
--- Where a place of a text may begin a pattern: each of eight buckets of patterns says what may stand at the first eight places of a window.
-use Rattle.std.specs.Prelude.{◌≡◌, ℕ, zero, suc, ◌+◌, ◌-◌, ◌*◌, ◌/◌, ◌%◌, ◌^◌, ◌<◌, ◌≤◌, ◌==◌, nat_le, nat_lt, bit_or, cond, Bool, true, false, ◌&&◌, ◌||◌, List, drop, length, slice_index, Option, Some, None, IfSome}
+-- Where a place of a text may begin a pattern: each of eight buckets of patterns says what may stand at the first eight offsets of a
+-- window.
+use Rattle.std.specs.Prelude.{◌≡◌, ℕ, zero, suc, ◌+◌, ◌-◌, ◌*◌, ◌/◌, ◌%◌, ◌^◌, ◌<◌, ◌≤◌, ◌==◌, nat_le, nat_lt, bit_or, cond, Bool, true}
+use Rattle.std.specs.Prelude.{false, ◌&&◌, ◌||◌, List, drop, length, slice_index, Option, Some, None, IfSome}
 use Rattle.daachorse_model.specs.Dictionary.{Dictionary}
 use Rattle.daachorse_model.specs.Filter.{is_clear}
 use Rattle.daachorse_model.specs.Prefixes.{IsKey}
@@ -22,7 +24,8 @@ unfoldable pub some_below : (ℕ → Bool) → ℕ → Bool
 some_below f zero = false
 some_below f (suc n) = f n || some_below f n
 
--- the bucket lets the window at the beginning of w pass: at each place of it the slot's entry has a 0 where the bucket has its bit for that place
+-- the bucket lets the window at the beginning of w pass: at each offset in it the slot's entry has a 0 where the bucket has its bit for
+-- that offset
 unfoldable pub lets : List ℕ → ℕ → List ℕ → Bool
 lets table bucket w = all_below (λ k. is_clear (slice_index table (slot_at w k)) (56 - 8 * k + bucket)) 8
 
@@ -39,7 +42,7 @@ abbrev pub may_begin : Option (List ℕ) → List ℕ → Bool
 may_begin None w = true
 may_begin (Some table) w = nat_lt (length w) 26 || some_lets table w
 
--- the pattern's bytes at the place k and the two after it have the slot y: its last two with any third, and any three where it has fewer
+-- the pattern's bytes at the offset k and the two after it have the slot y: its last two with any third, and any three where it has fewer
 unfoldable pub has_slot : List ℕ → ℕ → ℕ → Bool
 has_slot pattern k y =
     let a = slice_index pattern k in
@@ -47,7 +50,7 @@ has_slot pattern k y =
     cond (nat_le (k + 3) (length pattern)) (y == slot a b (slice_index pattern (k + 2)))
     (cond (k + 2 == length pattern) (some_below (λ c. y == slot a b c) 256) true)
 
--- of the entry of the slot y, bit i is the bucket's for one of the first n places, and the pattern has the slot there
+-- of the entry of the slot y, bit i is the bucket's for one of the first n offsets, and the pattern has the slot there
 unfoldable pub opens : List ℕ → ℕ → ℕ → ℕ → ℕ → Bool
 opens pattern bucket n y i = some_below (λ k. (i == 56 - 8 * k + bucket) && has_slot pattern k y) n
 
@@ -59,7 +62,7 @@ is_clear_at table y i = is_clear (slice_index table y) i
 abbrev pub is_open : List ℕ → ℕ → ℕ → ℕ → Bool
 is_open entries mask y i = is_clear (slice_index entries y) i || is_clear mask i
 
--- some bucket lets the pattern's bytes stand at each place
+-- some bucket lets the pattern's bytes stand at each offset
 pub record IsMarked (table pattern : List ℕ) : Type 0 where
   pub bucket : ℕ
   pub below : bucket < 8

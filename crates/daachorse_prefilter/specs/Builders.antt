@@ -9,7 +9,7 @@ abbrev pub is_nil : List (List ℕ) → Bool
 is_nil [] = true
 is_nil (p ∷ patterns) = false
 
--- bit j of a pair's entry is 0 just where some pattern has the pair at place j of its first 9 bytes
+-- bit j of a pair's entry is 0 just where some pattern has the pair at offset j of its first 9 bytes
 abbrev pub AreMarked : List ℕ → List (List ℕ) → Type 0
 AreMarked entries patterns =
     (pair j : ℕ) → pair < 65536 → j < 8 → is_clear (slice_index entries pair) j ≡ list_any (λ p. has_pair pair j (take 9 p)) patterns

@@ -1,5 +1,6 @@
 -- Which filter is made of a list of patterns, and when none is.
-use Rattle.std.specs.Prelude.{◌≡◌, ◌<◌, ℕ, zero, suc, slice_index, ◌-◌, ◌*◌, ◌^◌, min, nat_le, Bool, ◌&&◌, if◌then◌else◌, List, [], ◌∷◌, length, map, count_by, Option, Some, None}
+use Rattle.std.specs.Prelude.{◌≡◌, ◌<◌, ℕ, zero, suc, slice_index, ◌-◌, ◌*◌, ◌^◌, min, nat_le, Bool, ◌&&◌, if◌then◌else◌, List, [], ◌∷◌}
+use Rattle.std.specs.Prelude.{length, map, count_by, Option, Some, None}
 use Rattle.std.specs.List.{range_with_len}
 use Rattle.daachorse_model.specs.Filter.{is_clear, filter_entry}
 use Rattle.daachorse_prefilter.specs.Filters.{Filter}
@@ -17,11 +18,11 @@ first_entries patterns n = map (filter_entry patterns) (range_with_len 0 n)
 abbrev pub filter_of : List (List ℕ) → Filter
 filter_of patterns = record { window = window_len patterns; entries = first_entries patterns 65536 }
 
--- how many of the entries let a pair be the one at place j
+-- how many of the entries let a pair be the one at offset j
 abbrev pub count_clear : List ℕ → ℕ → ℕ
 count_clear entries j = count_by (λ e. is_clear e j) entries
 
--- the counts of the first 8 places
+-- the counts of the first 8 offsets
 abbrev pub ArePairCounts : List ℕ → List ℕ → Type 0
 ArePairCounts entries counts = (j : ℕ) → j < 8 → slice_index counts j ≡ count_clear entries j
 

@@ -8,7 +8,7 @@ use Rattle.std.specs.Hash.{HashWrites, Alike, on_Alike, and-Alike, same_Alike}
 use Rattle.std.proofs.lemmas.Bool.Decides.{Decides-eqb}
 use Rattle.std.proofs.lemmas.Slice.Eq.{slice_eq-Decides}
 use Rattle.daachorse_prefilter.specs.Filters.{Filter}
-use Rattle.daachorse_prefilter.specs.PairTables.{turned}
+use Rattle.daachorse_prefilter.specs.PairTables.{transposed_table}
 
 -- equal windows and equal entries
 abbrev pub filter_eq : Filter → Filter → Bool
@@ -16,7 +16,7 @@ filter_eq = eq_of_both (on (λ f. f.window) nat_eq) (on (λ f. f.entries) (point
 
 -- the entries in the order in which they stand in memory
 abbrev pub table_input : List ℕ → HashWrites
-table_input entries = fed.slice fed.u8 (turned entries)
+table_input entries = fed.slice fed.u8 (transposed_table entries)
 
 -- the window, and then the entries in the order in which they stand in memory
 abbrev pub filter_input : Filter → HashWrites

@@ -1,6 +1,6 @@
 //! Eight buckets of patterns, which pass over places where no pattern can begin.
 //!
-//! Each bucket says which three bytes may stand at each of the first eight places of a window, by a
+//! Each bucket says which three bytes may stand at each of the first eight offsets of a window, by a
 //! hash without regard to the case of letters. A place is a candidate if some bucket lets its
 //! window pass. The method is known as FDR.
 
@@ -27,7 +27,7 @@ pub const NEAR_END: usize = 26;
 /// Buckets of patterns, made by [`BucketsBuilder`]. They take 65,536 bytes.
 #[derive(Drop)]
 pub struct Buckets<A: Allocator = Global> {
-    // Bit 56 - 8 k + b of a slot's entry is 0 if bucket b lets its bytes stand at place k.
+    // Bit 56 - 8 k + b of a slot's entry is 0 if bucket b lets its bytes stand at offset k.
     entries: Vec<u64, A>,
     // Whether a scan reads each place, or each second one.
     reads_each: bool,

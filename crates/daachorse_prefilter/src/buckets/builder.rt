@@ -51,7 +51,7 @@ impl<A: Allocator> BucketsBuilder<A> {
         ensures { (y i : ℕ) → y < 8192 → i < 64 → is_clear_at self.new y i ≡ (is_clear_at self.old y i || opens pattern.now bucket 8 y i) }
     {
         self.shortest = pattern.len().min(self.shortest);
-        mark_places(&mut self.entries, &mut self.mask, pattern, bucket);
+        mark_offsets(&mut self.entries, &mut self.mask, pattern, bucket);
     }
 
     /// The buckets of the patterns that were added.
@@ -60,7 +60,7 @@ impl<A: Allocator> BucketsBuilder<A> {
     {
         let mut entries = self.entries;
         close_entries(&mut entries, self.mask);
-        // Of three bytes one place alone has all, which each second place may leave out.
+        // Of three bytes one offset alone has all, which a scan of each second place may leave out.
         Buckets {
             entries,
             reads_each: self.shortest < 4,
@@ -68,8 +68,8 @@ impl<A: Allocator> BucketsBuilder<A> {
     }
 }
 
-/// Lets the pattern's bytes stand at each place of a window.
-fn mark_places(entries: &mut [u64], mask: &mut u64, pattern: &[u8], bucket: usize)
+/// Lets the pattern's bytes stand at each offset of a window.
+fn mark_offsets(entries: &mut [u64], mask: &mut u64, pattern: &[u8], bucket: usize)
     requires sized { length entries.old ≡ 8192 }
     requires bucket { bucket < 8 }
     ensures sized { length entries.new ≡ 8192 }
@@ -80,11 +80,11 @@ fn mark_places(entries: &mut [u64], mask: &mut u64, pattern: &[u8], bucket: usiz
     }
 }
 
-/// Lets the pattern's bytes stand at the place k of a window and the two after it.
+/// Lets the pattern's bytes stand at the offset k of a window and the two after it.
 fn mark(entries: &mut [u64], mask: &mut u64, pattern: &[u8], bucket: usize, k: usize)
     requires sized { length entries.old ≡ 8192 }
     requires bucket { bucket < 8 }
-    requires place { k < 8 }
+    requires offset { k < 8 }
     ensures sized { length entries.new ≡ 8192 }
     ensures opens { (y i : ℕ) → i < 64 → is_open entries.new mask.new y i
         ≡ (is_open entries.old mask.old y i || ((i == 56 - 8 * k + bucket) && has_slot pattern.now k y)) }

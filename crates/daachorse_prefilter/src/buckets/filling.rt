@@ -12,7 +12,7 @@ const NUM_BUCKETS: usize = 8;
 /// alone. All are counted first, and then each is given its bucket.
 ///
 /// No two lengths share a bucket while there are enough, since the shorter patterns would open the
-/// later places of the longer ones' windows.
+/// later offsets of the longer ones' windows.
 #[derive(Drop)]
 pub struct Filling {
     // How many patterns of each length there are, and how many have a bucket.

@@ -9,7 +9,7 @@ pub(super) const NUM_SLOTS: usize = 8192;
 /// With this bit a capital letter is the small one.
 const CASE_BITS: u32 = 0x0020_2020;
 
-/// Times this, three bytes in the lower places have the number of their slot in the upper 13 of 32
+/// Times this, three bytes in the lower 24 bits have the number of their slot in the upper 13 of 32
 /// bits. Its lower eight bits are 0, so that a fourth byte changes nothing.
 const MIX: u32 = 0x85EB_CA00;
 

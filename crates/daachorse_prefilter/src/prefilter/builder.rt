@@ -79,7 +79,7 @@ impl<A: Allocator> PrefilterBuilder<A> {
 /// Allows each pair of the window at its offset, and counts those that are new there.
 fn clear_pairs<A: Allocator>(table: &mut PairTable<A>, counts: &mut [u32], window: &[u8])
     requires sized { length table.old ≡ 65536 }
-    requires places { length counts.old ≡ 8 }
+    requires offsets { length counts.old ≡ 8 }
     requires counted { ArePairCounts table.old counts.old }
     requires short { length window.now ≤ 9 }
     ensures marked { (pair j : ℕ) → pair < 65536 → j < 8 → is_clear (slice_index table.new pair) j
@@ -88,26 +88,26 @@ fn clear_pairs<A: Allocator>(table: &mut PairTable<A>, counts: &mut [u32], windo
     ensures counted { ArePairCounts table.new counts.new }
 {
     for i in 1..window.len() {
-        let place = i - 1;
-        let pair = pair_of(window[place], window[i]);
+        let offset = i - 1;
+        let pair = pair_of(window[offset], window[i]);
         let entry = table.entry(pair);
-        counts[place] += ((entry >> place) % 2) as u32;
-        table.set_entry(pair, entry & !(1u8 << place));
+        counts[offset] += ((entry >> offset) % 2) as u32;
+        table.set_entry(pair, entry & !(1u8 << offset));
     }
 }
 
 /// Whether at most one in sixteen of all windows of this many pairs would be a candidate.
 fn is_sparse(counts: &[u32], num_pairs: u8) -> bool
-    requires places { length counts.now ≡ 8 }
+    requires offsets { length counts.now ≡ 8 }
     requires low { 1 ≤ num_pairs }
     requires high { num_pairs ≤ 8 }
     ensures { (entries : List ℕ) → length entries ≡ 65536 → ArePairCounts entries counts.now
         → result ≡ is_sparse entries num_pairs }
 {
     let mut ways = 1u128;
-    for place in 0..num_pairs {
+    for offset in 0..num_pairs {
         // Only the last product may be too large.
-        let Some(more) = ways.checked_mul(counts[place as usize] as u128) else {
+        let Some(more) = ways.checked_mul(counts[offset as usize] as u128) else {
             return false;
         };
         ways = more;

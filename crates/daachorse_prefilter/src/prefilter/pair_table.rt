@@ -11,7 +11,7 @@ ghost use Rattle.std.proofs.Common.{rules};
 ghost use Rattle.daachorse_core.specs.Refusals.{IsOutOfMemory};
 ghost use Rattle.daachorse_serializer.specs.Forms.{Begins};
 ghost use Rattle.daachorse_prefilter.specs.Equality.{table_alike, table_input};
-ghost use Rattle.daachorse_prefilter.specs.PairTables.{turn, turned};
+ghost use Rattle.daachorse_prefilter.specs.PairTables.{transposed, transposed_table};
 
 use daachorse_core::errors::Result;
 use std::alloc::{Allocator, Global};
@@ -34,7 +34,7 @@ pub struct PairTable<A: Allocator = Global> {
 impl<A: Allocator> Model for PairTable<A> {
     ghost Value = { List ℕ };
 
-    ghost view = { λ s. turned s.items.items };
+    ghost view = { λ s. transposed_table s.items.items };
 
     ghost invariant = { λ s. length s.items.items ≡ 65536 };
 }
@@ -58,7 +58,7 @@ impl<A: Allocator> PairTable<A> {
         ensures err { IfErr result IsOutOfMemory }
     {
         let mut items = Vec::with_capacity(alloc, NUM_PAIRS)?;
-        push_turned(&mut items, entries)?;
+        push_transposed(&mut items, entries)?;
         Ok(Self { items })
     }
 
@@ -68,13 +68,13 @@ impl<A: Allocator> PairTable<A> {
         ensures kept { Begins dst.old.items dst.new.items }
         ensures err { IfErr result IsOutOfMemory }
     {
-        push_turned(dst, &self.items)
+        push_transposed(dst, &self.items)
     }
 
     /// The entry of the pair with this number, as [`pair_of`] gives it.
     #[inline(always)]
     pub fn entry(&self, pair: u16) -> u8
-        ensures { result ≡ slice_index self.now (turn pair) }
+        ensures { result ≡ slice_index self.now (transposed pair) }
     {
         self.items[pair as usize]
     }
@@ -82,7 +82,7 @@ impl<A: Allocator> PairTable<A> {
     /// Sets the entry of a pair.
     #[inline(always)]
     pub fn set_entry(&mut self, pair: u16, entry: u8)
-        ensures { self.new ≡ set self.old (turn pair) entry }
+        ensures { self.new ≡ set self.old (transposed pair) entry }
     {
         self.items[pair as usize] = entry;
     }
@@ -143,9 +143,9 @@ pub fn pair_of(first: u8, second: u8) -> u16
 }
 
 /// Appends the entries, with the bytes of each pair in the other order.
-fn push_turned<B: Allocator>(dst: &mut Vec<u8, B>, entries: &[u8]) -> Result<()>
+fn push_transposed<B: Allocator>(dst: &mut Vec<u8, B>, entries: &[u8]) -> Result<()>
     requires { length entries.now ≡ 65536 }
-    ensures appends { IfOk result (λ _. dst.new.items ≡ dst.old.items ++ turned entries.now) }
+    ensures appends { IfOk result (λ _. dst.new.items ≡ dst.old.items ++ transposed_table entries.now) }
     ensures kept { Begins dst.old.items dst.new.items }
     ensures err { IfErr result IsOutOfMemory }
 {
@@ -160,7 +160,7 @@ fn push_turned<B: Allocator>(dst: &mut Vec<u8, B>, entries: &[u8]) -> Result<()>
 fn entries_behind(entries: &[u8], byte: usize) -> [u8; NUM_BYTES]
     requires sized { length entries.now ≡ 65536 }
     requires byte { byte < 256 }
-    ensures { (k : ℕ) → k < 256 → slice_index result k ≡ slice_index entries.now (turn (byte * 256 + k)) }
+    ensures { (k : ℕ) → k < 256 → slice_index result k ≡ slice_index entries.now (transposed (byte * 256 + k)) }
 {
     let mut row = [0u8; NUM_BYTES];
     for first in 0..NUM_BYTES {
@@ -172,5 +172,5 @@ fn entries_behind(entries: &[u8], byte: usize) -> [u8; NUM_BYTES]
 /// Does nothing. Its contract says that what is in hand is bytes.
 #[inline(always)]
 fn bytes_in_range(_bytes: &[u8])
-    ensures { (place : ℕ) → slice_index _bytes.now place < 2 ^ 8 }
+    ensures { (k : ℕ) → slice_index _bytes.now k < 2 ^ 8 }
 {}

@@ -1,4 +1,4 @@
--- The pairs that end before byte i stand at their places.
+-- The pairs that end before byte i stand at their offsets.
 use Rattle.std.proofs.Common.{◌≡◌, ◌+◌, ◌≤◌, length}
 use Rattle.daachorse_prefilter.specs.Building.{ArePairCounts}
 use Rattle.daachorse_prefilter.proofs.Marking.{AreMarkedBelow}

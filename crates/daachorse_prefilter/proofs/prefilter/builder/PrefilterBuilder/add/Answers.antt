@@ -1,4 +1,4 @@
--- Each pair of the first 9 bytes is let stand at its place.
+-- Each pair of the first 9 bytes is let stand at its offset.
 use Rattle.std.proofs.Common.{◌≡◌, ◌||◌, length, take, min, get_or, sym, ap, ◌∙◌, arith}
 use Rattle.daachorse_model.specs.Filter.{is_clear, has_pair}
 use Rattle.daachorse_prefilter.proofs.Tables.{window_is, is_nil-push, window_len-push, more_marked}
@@ -18,4 +18,5 @@ returns g c patterns added =
     }
 
 pub invariant_of-self : goal.invariant_of-self
-invariant_of-self g c = record { short = (let e = c.min.ensures in omega arith); sized = c.clear_pairs.ensures.sized; counted = c.clear_pairs.ensures.counted }
+invariant_of-self g c = record { short = (let e = c.min.ensures in omega arith); sized = c.clear_pairs.ensures.sized;
+    counted = c.clear_pairs.ensures.counted }

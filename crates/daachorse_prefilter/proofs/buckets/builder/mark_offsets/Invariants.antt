@@ -1,8 +1,8 @@
--- The pattern is marked at the places so far, and each other bit is as it was.
+-- The pattern is marked at the offsets so far, and each other bit is as it was.
 use Rattle.std.proofs.Common.{◌≡◌, ℕ, ◌<◌, length}
 use Rattle.std.specs.Prelude.{◌||◌}
 use Rattle.daachorse_prefilter.specs.Buckets.{is_open, opens}
-use Rattle.daachorse_prefilter.proofs.buckets.builder.mark_places.Given as goal
+use Rattle.daachorse_prefilter.proofs.buckets.builder.mark_offsets.Given as goal
 
 abbrev pub invariant-loop-k : goal.invariant-loop-k
 invariant-loop-k l = record {

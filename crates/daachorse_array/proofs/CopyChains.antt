@@ -1,5 +1,6 @@
 -- The own values of a text stop where the chain of its link begins, since each output there is of a shorter text.
-use Rattle.std.proofs.Common.{◌≡◌, ◌≢◌, ℕ, zero, suc, ◌<◌, ◌≤◌, Bool, true, false, ◌==◌, cond, List, [], ◌∷◌, ◌++◌, map, length, Option, Some, None, refl, sym, ap, ◌∙◌, subst, inl, inr, arith}
+use Rattle.std.proofs.Common.{◌≡◌, ◌≢◌, ℕ, zero, suc, ◌<◌, ◌≤◌, Bool, true, false, ◌==◌, cond, List, [], ◌∷◌, ◌++◌, map, length, Option}
+use Rattle.std.proofs.Common.{Some, None, refl, sym, ap, ◌∙◌, subst, inl, inr, arith}
 use Rattle.std.proofs.lemmas.Option.{none-some}
 use Rattle.std.specs.Prelude.{option_map}
 use Rattle.daachorse_core.specs.declared.outputs.Output.{Output}
@@ -35,11 +36,14 @@ module _ {V : Type 0} (outputs : List (Output V)) where
       here (suc steps) =
           let len : length_of o ≡ m = ap (λ (x : V × ℕ). x.1) same in
           let test : (length_of o == n) ≡ false = grind (arith, len, other) in
-          ap (λ x. own_step outputs x n p (λ r. own_from outputs steps n r)) is ∙ ap (λ b. own_next outputs b o p (own_from outputs steps n (parent_of o))) test
+          ap (λ x. own_step outputs x n p (λ r. own_from outputs steps n r)) is
+              ∙ ap (λ b. own_next outputs b o p (own_from outputs steps n (parent_of o))) test
 
-  -- the values of length n that come first are those up to the place where they stop
-  pub own-passes : ParentsFall outputs → (steps n p q : ℕ) (vs : List V) → p ≤ steps → Passes outputs p (map (λ v. (v, n)) vs) q → Stops n q → own_from outputs steps n p ≡ (vs, q)
-  own-passes falls steps n p q [] h e stops = let P : ℕ → Type 0 = λ r. own_from outputs steps n r ≡ ([], q) in subst P (sym e) (stops steps)
+  -- the values of length n that come first are those up to where they stop
+  pub own-passes : ParentsFall outputs → (steps n p q : ℕ) (vs : List V) → p ≤ steps → Passes outputs p (map (λ v. (v, n)) vs) q → Stops n q
+      → own_from outputs steps n p ≡ (vs, q)
+  own-passes falls steps n p q [] h e stops = let P : ℕ → Type 0 = λ r. own_from outputs steps n r ≡ ([], q) in
+      subst P (sym e) (stops steps)
   own-passes falls steps n zero q (v ∷ vs) h none stops = absurd none
   own-passes falls zero n (suc p) q (v ∷ vs) h some stops = absurd (omega arith)
   own-passes falls (suc steps) n (suc p) q (v ∷ vs) h (o, is, same, more) stops =
@@ -47,13 +51,15 @@ module _ {V : Type 0} (outputs : List (Output V)) where
       let value : value_of o ≡ v = ap (λ (x : V × ℕ). x.0) same in
       let test : (length_of o == n) ≡ true = grind (arith, len) in
       let low : parent_of o ≤ p = falls p o is in
-      let rest : own_from outputs steps n (parent_of o) ≡ (vs, q) = own-passes falls steps n (parent_of o) q vs (omega (arith, low, h)) more stops in
+      let rest : own_from outputs steps n (parent_of o) ≡ (vs, q) =
+          own-passes falls steps n (parent_of o) q vs (omega (arith, low, h)) more stops in
       ap (λ x. own_step outputs x n p (λ r. own_from outputs steps n r)) is
       ∙ ap (λ b. own_next outputs b o p (own_from outputs steps n (parent_of o))) test
       ∙ ap (λ (r : List V × ℕ). (value_of o ∷ r.0, r.1)) rest
       ∙ ap (λ x. (x ∷ vs, q)) value
 
-module _ {V : Type 0} (width : ℕ → ℕ) (wide : (u : ℕ) → 1 ≤ width u) (K : Dictionary V) (leftmost : Bool) (t : LinkedTrie) (outputs : List (Output V)) (holds : HoldsDictionary width K leftmost t outputs) where
+module _ {V : Type 0} (width : ℕ → ℕ) (wide : (u : ℕ) → 1 ≤ width u) (K : Dictionary V) (leftmost : Bool) (t : LinkedTrie)
+    (outputs : List (Output V)) (holds : HoldsDictionary width K leftmost t outputs) where
   -- a shorter end takes fewer bytes
   shorter-size : (v w : List ℕ) → IsSuffix v w → length v < length w → size width v < size width w
   shorter-size v w (front, e) less = by front e
@@ -63,7 +69,9 @@ module _ {V : Type 0} (width : ℕ → ℕ) (wide : (u : ℕ) → 1 ≤ width u)
       by (u ∷ front) e = omega (arith, size-append width (u ∷ front) v, ap (size width) e, wide u)
 
   -- where a chain goes on behind the own outputs of a text, no output is as long as the text
-  next_stops : (n s : ℕ) (w : List ℕ) → Leads t.child w s → size width w ≤ n → ((r : ℕ) (v : List ℕ) → length v < length w → Leads t.child v r → size width v < n → Stops outputs n (t.output r)) → Stops outputs n (next_output t w s)
+  next_stops : (n s : ℕ) (w : List ℕ) → Leads t.child w s → size width w ≤ n
+      → ((r : ℕ) (v : List ℕ) → length v < length w → Leads t.child v r → size width v < n → Stops outputs n (t.output r))
+      → Stops outputs n (next_output t w s)
   next_stops n s [] e fits more = Stops-zero outputs n
   next_stops n s (u ∷ w) e fits more = go (holds.links u s w e)
     where
@@ -89,10 +97,13 @@ module _ {V : Type 0} (width : ℕ → ℕ) (wide : (u : ℕ) → 1 ≤ width u)
       (next_stops n s w e (omega (arith, less)) (λ r v shorter leads low. stops_in steps n r v (omega (arith, shorter, short)) leads low))
 
   -- the own values of a state are those of its text
-  pub own-held : (s : ℕ) (w : List ℕ) → Leads t.child w s → own_from outputs (t.output s) (size width w) (t.output s) ≡ (K w, next_output t w s)
+  pub own-held : (s : ℕ) (w : List ℕ) → Leads t.child w s → own_from outputs (t.output s) (size width w)
+      (t.output s) ≡ (K w, next_output t w s)
   own-held s w e =
-      own-passes outputs holds.parents_fall (t.output s) (size width w) (t.output s) (next_output t w s) (K w) (omega arith) (holds.chains s w e)
-      (next_stops (size width w) s w e (omega arith) (λ r v shorter leads low. stops_in (length v) (size width w) r v (omega arith) leads low))
+      own-passes outputs holds.parents_fall (t.output s) (size width w) (t.output s) (next_output t w s) (K w) (omega arith)
+          (holds.chains s w e)
+      (next_stops (size width w) s w e (omega arith)
+          (λ r v shorter leads low. stops_in (length v) (size width w) r v (omega arith) leads low))
 
   module _ (a : Machine V) (idx : ℕ → ℕ) (copy : IsCopy t outputs a idx) where
     -- the same of an element

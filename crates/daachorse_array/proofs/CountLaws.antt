@@ -9,28 +9,31 @@ use Rattle.daachorse_array.proofs.MachineLaws.{fore, back}
 use Rattle.daachorse_array.proofs.PathLaws.{takes_fit, walk-split, reached_element}
 
 -- the texts that lead to an element of a right machine are the prefixes of its keys
-pub counted-prefixes : {V : Type 0} (width : ℕ → ℕ) (a : Machine V) (leftmost : Bool) (n m k : ℕ) → IsMachine width a leftmost n m → IsCounted a k → HasPrefixes (content width a) k
+pub counted-prefixes : {V : Type 0} (width : ℕ → ℕ) (a : Machine V) (leftmost : Bool) (n m k : ℕ) → IsMachine width a leftmost n m
+    → IsCounted a k → HasPrefixes (content width a) k
 counted-prefixes width a leftmost n m k h counted = record {
   texts = counted.texts;
   distinct = counted.distinct;
-  exactly = λ w. (λ p. (counted.exactly w).0 (back width a leftmost n m h w p), λ c. fore width a leftmost n m h w ((counted.exactly w).1 c));
+  exactly = λ w. (λ p. (counted.exactly w).0 (back width a leftmost n m h w p),
+      λ c. fore width a leftmost n m h w ((counted.exactly w).1 c));
   count = counted.count;
 }
 
 module _ (child : ℕ → ℕ → Option ℕ) (n : ℕ) (counted : PassesAt (is_reached child) n) where
   pub shorter-counted : (w : List ℕ) (i : ℕ) → Leads child w i → length w < n
-  shorter-counted w i e = takes_fit n w (λ k. (place k).0) below same
+  shorter-counted w i e = takes_fit n w (λ k. (at k).0) below same
     where
-      place : (k : ℕ) → Contains counted.texts (take k w)
-      place k =
+      at : (k : ℕ) → Contains counted.texts (take k w)
+      at k =
           let halves = walk-split child 0 i (take k w) (drop k w) (ap (λ v. walk child 0 v) (take-append-drop k w) ∙ e) in
           (counted.exactly (take k w)).0 (reached_element child (take k w) halves.0 halves.1)
 
-      below : (k : ℕ) → k < suc (length w) → (place k).0 < n
-      below k h = omega (arith, (place k).1, counted.count)
+      below : (k : ℕ) → k < suc (length w) → (at k).0 < n
+      below k h = omega (arith, (at k).1, counted.count)
 
-      same : (j k : ℕ) → (place j).0 ≡ (place k).0 → take j w ≡ take k w
+      same : (j k : ℕ) → (at j).0 ≡ (at k).0 → take j w ≡ take k w
       same j k e =
-          let left : get_or counted.texts (place j).0 (take j w) ≡ take j w = (place j).2 in
-          let right : get_or counted.texts (place k).0 (take k w) ≡ take k w = (place k).2 in
-          sym left ∙ (get_or_default counted.texts (place j).0 (take j w) (take k w) (place j).1 ∙ (ap (λ q. get_or counted.texts q (take k w)) e ∙ right))
+          let left : get_or counted.texts (at j).0 (take j w) ≡ take j w = (at j).2 in
+          let right : get_or counted.texts (at k).0 (take k w) ≡ take k w = (at k).2 in
+          sym left ∙ (get_or_default counted.texts (at j).0 (take j w) (take k w) (at j).1
+              ∙ (ap (λ q. get_or counted.texts q (take k w)) e ∙ right))

@@ -37,7 +37,7 @@ first-length {V} outputs n (suc q) h = go (slice_get outputs q) refl h
         → (o : Output V) × (0 < suc q) × (slice_get outputs (suc q - 1) ≡ Some o) × (length_of o ≡ n)
     go None is h = absurd (false≢true h)
     go (Some o) is h = elim (cases_eq (length_of o) n) [
-      | inl same ↦ (let place : suc q - 1 ≡ q = omega arith in (o, omega arith, ap (slice_get outputs) place ∙ is, same))
+      | inl same ↦ (let back : suc q - 1 ≡ q = omega arith in (o, omega arith, ap (slice_get outputs) back ∙ is, same))
       | inr other ↦ (
           let test : (length_of o == n) ≡ false = grind (arith, other) in
           absurd (false≢true (sym (ap (λ b. is_key (λ (_ : List ℕ). (own_next outputs b o q (own_from outputs q n (parent_of o))).0) [])

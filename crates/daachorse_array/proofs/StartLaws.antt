@@ -2,9 +2,10 @@
 use Rattle.std.proofs.Common.{◌≡◌, ℕ, suc, ◌+◌, ◌<◌, ◌≤◌, ◌++◌, ◌∷◌, [], List, length, sym, ◌∙◌, inl, inr, arith, get_or}
 use Rattle.std.proofs.lemmas.List.{get_or_push, get_or_append_left}
 use Rattle.std.proofs.lemmas.Bool.{cases_eq}
-use Rattle.daachorse_array.specs.Places.{AreStarts, AreStartsTo}
+use Rattle.daachorse_array.specs.Ranks.{AreStarts, AreStartsTo}
 
-module _ (parents starts : List ℕ) (s m : ℕ) (e : length starts ≡ s) (to : AreStartsTo parents starts s) (pos : 0 < m) (most : m ≤ length parents)
+module _ (parents starts : List ℕ) (s m : ℕ) (e : length starts ≡ s) (to : AreStartsTo parents starts s) (pos : 0 < m)
+    (most : m ≤ length parents)
     (past : (k : ℕ) → 0 < k → k < m → get_or parents k 0 < s) (rest : (k : ℕ) → m ≤ k → k < length parents → s ≤ get_or parents k 0) where
   old : (p : ℕ) → p < s → get_or (starts ++ m ∷ []) p 0 ≡ get_or starts p 0
   old p lt = get_or_append_left starts (m ∷ []) 0 p (omega (arith, lt, e))
@@ -20,8 +21,10 @@ module _ (parents starts : List ℕ) (s m : ℕ) (e : length starts ≡ s) (to :
   starts_push = record {
     least = λ p lt. split p lt _ (λ h. omega (arith, old p h, to.least p h)) (λ h. omega (arith, new p h, pos));
     most = λ p lt. split p lt _ (λ h. omega (arith, old p h, to.most p h)) (λ h. omega (arith, new p h, most));
-    before = λ p k lt low high. split p lt _ (λ h. to.before p k h low (omega (arith, old p h, high))) (λ h. omega (arith, h, past k low (omega (arith, new p h, high))));
-    after = λ p k lt low high. split p lt _ (λ h. to.after p k h (omega (arith, old p h, low)) high) (λ h. omega (arith, h, rest k (omega (arith, new p h, low)) high));
+    before = λ p k lt low high. split p lt _ (λ h. to.before p k h low (omega (arith, old p h, high)))
+        (λ h. omega (arith, h, past k low (omega (arith, new p h, high))));
+    after = λ p k lt low high. split p lt _ (λ h. to.after p k h (omega (arith, old p h, low)) high)
+        (λ h. omega (arith, h, rest k (omega (arith, new p h, low)) high));
   }
 
 module _ (parents starts : List ℕ) (are : AreStarts parents starts) (p : ℕ) (within : p < length parents) where

@@ -2,7 +2,7 @@ pub mod Texts
 pub mod Machines
 pub mod Copies
 pub mod Links
-pub mod Places
+pub mod Ranks
 pub mod Near
 pub mod Tours
 pub mod Following

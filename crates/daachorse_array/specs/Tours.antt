@@ -1,4 +1,4 @@
--- A tour of the places: each after its link, and the link of the next on the link path of the one before.
+-- A tour of the ranks: each after its link, and the link of the next on the link path of the one before.
 use Rattle.std.specs.Prelude.{◌≡◌, ℕ, zero, suc, ◌+◌, ◌<◌, ◌≤◌, ◌⊎◌, Bool, List, [], ◌∷◌, length, slice_index}
 use Rattle.daachorse_array.specs.Near.{up, near, IsAbove, AreNear, IsChecked, IsSaved, right, top, above}
 
@@ -15,7 +15,7 @@ abbrev pub IsThreaded : List ℕ → ℕ → ℕ → List ℕ → Type 0
 IsThreaded next n a [] = a ≡ n
 IsThreaded next n a (x ∷ xs) = (a ≡ x) × IsThreaded next n (slice_index next x) xs
 
--- a tour of the first m of n places, that begins after n
+-- a tour of the first m of n ranks, that begins after n
 pub record IsTour (up : ℕ → ℕ) (n : ℕ) (next : List ℕ) (m : ℕ) : Type 0 where
   pub size : length next ≡ suc n
   pub list : List ℕ
@@ -26,7 +26,7 @@ pub record IsTour (up : ℕ → ℕ) (n : ℕ) (next : List ℕ) (m : ℕ) : Typ
   pub all : (x : ℕ) → x < m → In x list
   pub steps : (a : ℕ) → a ≤ n → (slice_index next a ≡ n) ⊎ IsAbove up (up (slice_index next a)) a
 
--- a tour that has left k places, the last of them here, and comes to p next; t is the link where nothing is near here
+-- a tour that has left k ranks, the last of them here, and comes to p next; t is the link where nothing is near here
 pub record IsTouring (parents labels : List ℕ) (stops : List Bool) (fails next array saved : List ℕ) (k here p t : ℕ) : Type 0 where
   pub rest : List ℕ
   pub linked : IsThreaded next (length fails) p rest
@@ -41,13 +41,20 @@ pub record IsTouring (parents labels : List ℕ) (stops : List Bool) (fails next
 
 -- on the way to p: p's children below m have the right links, and are near; what was near is saved
 pub record IsEntering (parents labels : List ℕ) (stops : List Bool) (fails array saved old : List ℕ) (p m : ℕ) : Type 0 where
-  pub checked : (j : ℕ) → 0 < j → j < length parents → j < m → slice_index parents j ≡ p → slice_index fails j ≡ right parents labels stops fails p j (slice_index labels j)
+  pub checked : (j : ℕ) → 0 < j → j < length parents → j < m → slice_index parents j ≡ p
+      → slice_index fails j ≡ right parents labels stops fails p j (slice_index labels j)
   pub mine : (j : ℕ) → 0 < j → j < length parents → j < m → slice_index parents j ≡ p → slice_index array (slice_index labels j) ≡ j
-  pub other : (c : ℕ) → c < length array → ((j : ℕ) → 0 < j → j < length parents → j < m → slice_index parents j ≡ p → slice_index labels j ≡ c → ⊥) → slice_index array c ≡ near parents labels fails (up fails p) c
-  pub kept : (j : ℕ) → 0 < j → j < length parents → j < m → slice_index parents j ≡ p → slice_index saved j ≡ near parents labels fails (up fails p) (slice_index labels j)
+  pub other : (c : ℕ) → c < length array
+      → ((j : ℕ) → 0 < j → j < length parents → j < m → slice_index parents j ≡ p → slice_index labels j ≡ c → ⊥)
+      → slice_index array c ≡ near parents labels fails (up fails p) c
+  pub kept : (j : ℕ) → 0 < j → j < length parents → j < m → slice_index parents j ≡ p
+      → slice_index saved j ≡ near parents labels fails (up fails p) (slice_index labels j)
   pub frame : (j : ℕ) → (slice_index parents j ≡ p → ⊥) → slice_index saved j ≡ slice_index old j
 
 -- on the way from p: of the labels of p's children below m, what is near above p is there again
 pub record IsLeaving (parents labels fails array : List ℕ) (p m : ℕ) : Type 0 where
-  pub back : (j : ℕ) → 0 < j → j < length parents → j < m → slice_index parents j ≡ p → slice_index array (slice_index labels j) ≡ near parents labels fails (up fails p) (slice_index labels j)
-  pub other : (c : ℕ) → c < length array → ((j : ℕ) → 0 < j → j < length parents → j < m → slice_index parents j ≡ p → slice_index labels j ≡ c → ⊥) → slice_index array c ≡ near parents labels fails p c
+  pub back : (j : ℕ) → 0 < j → j < length parents → j < m → slice_index parents j ≡ p
+      → slice_index array (slice_index labels j) ≡ near parents labels fails (up fails p) (slice_index labels j)
+  pub other : (c : ℕ) → c < length array
+      → ((j : ℕ) → 0 < j → j < length parents → j < m → slice_index parents j ≡ p → slice_index labels j ≡ c → ⊥)
+      → slice_index array c ≡ near parents labels fails p c

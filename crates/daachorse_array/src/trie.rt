@@ -1,17 +1,17 @@
 //! A trie with links that may be wrong, and their check.
 //!
 //! The links are first followed as a build follows them, which is fast: they lead to short texts,
-//! whose places stand together at the front. Some tries would take quadratic time that way. Past a
-//! limit of steps a tour decides instead, in time linear in the places and the labels.
+//! whose ranks stand together at the front. Some tries would take quadratic time that way. Past a
+//! limit of steps a tour decides instead, in time linear in the ranks and the labels.
 //!
-//! If each link leads to an earlier place, right or wrong, the links form a forest. The tour comes
-//! to each place after its link, and between places it only goes back along links. For each label
-//! it keeps the child by that label of the nearest place on the way back. This child is near, and
+//! If each link leads to an earlier rank, right or wrong, the links form a forest. The tour comes
+//! to each rank after its link, and between ranks it only goes back along links. For each label
+//! it keeps the child by that label of the nearest rank on the way back. This child is near, and
 //! is the right link of the next child by the label.
 
 ghost use Rattle.std.specs.Prelude.{◌≡◌, ◌↔◌, ℕ, IsTrue, ◌<◌, ◌≤◌, ◌^◌, length, cond, IfOk, IfErr};
 ghost use Rattle.daachorse_core.specs.Refusals.{IsOutOfMemory};
-ghost use Rattle.daachorse_array.specs.Places.{IsOrder, IsTrieOfPlaces, HasLinks, LinksFall, AreStarts, stop};
+ghost use Rattle.daachorse_array.specs.Ranks.{IsOrder, IsTrieOfRanks, HasLinks, LinksFall, AreStarts, stop};
 ghost use Rattle.daachorse_array.specs.Near.{up, near, top, above, root_value, or_top, IsAbove, AreNear, IsChecked, IsSaved};
 ghost use Rattle.daachorse_array.specs.Tours.{IsTour};
 
@@ -20,21 +20,22 @@ mod following;
 use daachorse_core::errors::Result;
 use std::alloc::{Allocator, Global};
 
-/// A trie with its places in breadth-first order, the root at place 0. Its links may be wrong.
+/// A trie whose elements go by rank, which is their number in breadth-first order, 0 for the root.
+/// Its links may be wrong.
 #[derive(Drop)]
 pub struct Trie<A: Allocator = Global> {
-    /// The parent of each place; not read for the root.
+    /// The parent of each rank; not read for the root.
     pub parents: Vec<u32, A>,
-    /// The label that leads to each place from its parent; not read for the root.
+    /// The label that leads to each rank from its parent; not read for the root.
     pub labels: Vec<u32, A>,
-    /// The link of each place, or the number of places for a dead link; not read for the root.
+    /// The link of each rank, or the number of ranks for a dead link; not read for the root.
     pub fails: Vec<u32, A>,
-    /// Whether each place ends a key.
+    /// Whether each rank ends a key.
     pub stops: Vec<bool, A>,
 }
 
 impl<A: Allocator + Copy> Trie<A> {
-    /// Whether each link but the root's is dead or leads to an earlier place.
+    /// Whether each link but the root's is dead or leads to an earlier rank.
     fn links_fall(&self) -> bool
         requires few { length self.now.fails.items < 2 ^ 32 }
         ensures { IsTrue result ↔ LinksFall self.now.fails.items }
@@ -49,7 +50,7 @@ impl<A: Allocator + Copy> Trie<A> {
         true
     }
 
-    /// The link of place p; the number of places for the root.
+    /// The link of rank p; the number of ranks for the root.
     fn above(&self, p: u32) -> u32
         requires few { length self.now.fails.items < 2 ^ 32 }
         requires within { p < length self.now.fails.items }
@@ -61,7 +62,7 @@ impl<A: Allocator + Copy> Trie<A> {
         self.fails[p as usize]
     }
 
-    /// Where children begin: those of place p are the places from entry p until entry p + 1.
+    /// Where children begin: those of rank p are the ranks from entry p until entry p + 1.
     fn starts(&self, alloc: A) -> Result<Vec<u32, A>>
         requires order { IsOrder self.now.parents.items }
         requires few { length self.now.parents.items < 2 ^ 32 }
@@ -82,8 +83,8 @@ impl<A: Allocator + Copy> Trie<A> {
         Ok(starts)
     }
 
-    /// For each place the next one in an order in which a place comes after its link, and its link
-    /// is on the link path of the place before it. The last entry is the first place.
+    /// For each rank the next one in an order in which a rank comes after its link, and its link
+    /// is on the link path of the rank before it. The last entry is the first rank.
     fn tour(&self, alloc: A) -> Result<Vec<u32, A>>
         requires few { length self.now.fails.items < 2 ^ 32 }
         requires fall { LinksFall self.now.fails.items }
@@ -115,7 +116,7 @@ impl<A: Allocator + Copy> Trie<A> {
         self.fails.len() as u32
     }
 
-    /// The right link of place m. `found` is what is near above its parent, 0 for nothing; `other`
+    /// The right link of rank m. `found` is what is near above its parent, 0 for nothing; `other`
     /// is the link in that case.
     fn right_link(&self, m: u32, found: u32, other: u32) -> u32
         requires few { length self.now.fails.items < 2 ^ 32 }
@@ -131,7 +132,7 @@ impl<A: Allocator + Copy> Trie<A> {
         found
     }
 
-    /// Goes from place p's link to p, and returns whether the links of p's children are right. If
+    /// Goes from rank p's link to p, and returns whether the links of p's children are right. If
     /// so, the children are near, and what was near is saved.
     fn enter(
         &self,
@@ -141,7 +142,7 @@ impl<A: Allocator + Copy> Trie<A> {
         p: u32,
         other: u32,
     ) -> bool
-        requires trie { IsTrieOfPlaces self.now.parents.items self.now.labels.items (length near.old.items) }
+        requires trie { IsTrieOfRanks self.now.parents.items self.now.labels.items (length near.old.items) }
         requires each { length self.now.fails.items ≡ length self.now.parents.items }
         requires stops { length self.now.stops.items ≡ length self.now.parents.items }
         requires few { length self.now.parents.items < 2 ^ 32 }
@@ -171,9 +172,9 @@ impl<A: Allocator + Copy> Trie<A> {
         true
     }
 
-    /// Goes back from place p to its link.
+    /// Goes back from rank p to its link.
     fn leave(&self, starts: &[u32], near: &mut Vec<u32, A>, saved: &[u32], p: u32)
-        requires trie { IsTrieOfPlaces self.now.parents.items self.now.labels.items (length near.old.items) }
+        requires trie { IsTrieOfRanks self.now.parents.items self.now.labels.items (length near.old.items) }
         requires each { length self.now.fails.items ≡ length self.now.parents.items }
         requires few { length self.now.parents.items < 2 ^ 32 }
         requires fall { LinksFall self.now.fails.items }
@@ -191,9 +192,9 @@ impl<A: Allocator + Copy> Trie<A> {
         }
     }
 
-    /// Goes back from place `from` to the place `to` on its link path.
+    /// Goes back from rank `from` to the rank `to` on its link path.
     fn retreat(&self, starts: &[u32], near: &mut Vec<u32, A>, saved: &[u32], from: u32, to: u32)
-        requires trie { IsTrieOfPlaces self.now.parents.items self.now.labels.items (length near.old.items) }
+        requires trie { IsTrieOfRanks self.now.parents.items self.now.labels.items (length near.old.items) }
         requires each { length self.now.fails.items ≡ length self.now.parents.items }
         requires few { length self.now.parents.items < 2 ^ 32 }
         requires fall { LinksFall self.now.fails.items }
@@ -213,10 +214,10 @@ impl<A: Allocator + Copy> Trie<A> {
         }
     }
 
-    /// Whether each place has the right leftmost link. Every label is below `alphabet`.
+    /// Whether each rank has the right leftmost link. Every label is below `alphabet`.
     pub fn has_links(&self, alloc: A, alphabet: u32) -> Result<bool>
         requires stops { length self.now.stops.items ≡ length self.now.parents.items }
-        requires trie { IsTrieOfPlaces self.now.parents.items self.now.labels.items alphabet }
+        requires trie { IsTrieOfRanks self.now.parents.items self.now.labels.items alphabet }
         requires each { length self.now.fails.items ≡ length self.now.parents.items }
         requires few { length self.now.parents.items < 2 ^ 32 }
         ensures ok { IfOk result (λ valid. IsTrue valid ↔ HasLinks self.now.parents.items self.now.labels.items self.now.stops.items self.now.fails.items) }

@@ -1,18 +1,18 @@
-//! The check of links by following them, from the link of each place's parent on, in a limited
+//! The check of links by following them, from the link of each rank's parent on, in a limited
 //! number of steps.
 
 ghost use Rattle.std.specs.Prelude.{◌≡◌, ◌↔◌, IsTrue, ◌<◌, ◌≤◌, ◌^◌, length, slice_index, true, IfSome};
-ghost use Rattle.daachorse_array.specs.Places.{IsLabelled, HasLinks, LinksFall, AreStarts, child};
+ghost use Rattle.daachorse_array.specs.Ranks.{IsLabelled, HasLinks, LinksFall, AreStarts, child};
 ghost use Rattle.daachorse_array.specs.Near.{pick, right};
 
 use crate::trie::Trie;
 use std::alloc::Allocator;
 
-/// The number of steps allowed for each place, on average.
+/// The number of steps allowed for each rank, on average.
 const STEPS: usize = 32;
 
 impl<A: Allocator + Copy> Trie<A> {
-    /// Whether place m is the child of place p by a label.
+    /// Whether rank m is the child of rank p by a label.
     fn is_child(&self, m: u32, p: u32, label: u32) -> bool
         requires each { length self.now.labels.items ≡ length self.now.parents.items }
         ensures { result ≡ true → (0 < m) × (m < length self.now.parents.items) × (slice_index self.now.parents.items m ≡ p) × (slice_index self.now.labels.items m ≡ label) }
@@ -29,7 +29,7 @@ impl<A: Allocator + Copy> Trie<A> {
         self.labels[m as usize] == label
     }
 
-    /// The child of place p by a label, 0 if there is none, by linear search.
+    /// The child of rank p by a label, 0 if there is none, by linear search.
     fn child(&self, starts: &[u32], p: u32, label: u32) -> u32
         requires trie { IsLabelled self.now.parents.items self.now.labels.items }
         requires few { length self.now.parents.items < 2 ^ 32 }
@@ -46,7 +46,7 @@ impl<A: Allocator + Copy> Trie<A> {
         0
     }
 
-    /// The right link of place m; `None` if it takes more than `left` steps.
+    /// The right link of rank m; `None` if it takes more than `left` steps.
     fn followed(&self, starts: &[u32], m: u32, left: &mut usize) -> Option<u32>
         requires trie { IsLabelled self.now.parents.items self.now.labels.items }
         requires each { length self.now.fails.items ≡ length self.now.parents.items }
@@ -82,7 +82,7 @@ impl<A: Allocator + Copy> Trie<A> {
         Some(self.right_link(m, 0, self.root_value(below)))
     }
 
-    /// Whether each place has the right leftmost link; `None` if the steps run out.
+    /// Whether each rank has the right leftmost link; `None` if the steps run out.
     pub(super) fn follows(&self, starts: &[u32]) -> Option<bool>
         requires trie { IsLabelled self.now.parents.items self.now.labels.items }
         requires each { length self.now.fails.items ≡ length self.now.parents.items }

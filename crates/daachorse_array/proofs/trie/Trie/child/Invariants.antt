@@ -1,4 +1,4 @@
--- None of the children of the place that were looked at has the label.
+-- None of the children of the rank that were looked at has the label.
 use Rattle.std.proofs.Common.{◌≡◌, ◌≢◌, ℕ, ◌+◌, ◌<◌, ◌≤◌, get_or}
 use Rattle.daachorse_array.proofs.trie.Trie.child.Given as goal
 

@@ -1,4 +1,5 @@
--- By the labels of the children that were looked at the array has again what is near above the place, and by the others still what is near the place.
+-- By the labels of the children that were looked at the array has again what is near above the rank, and by the others still what is near
+-- the rank.
 use Rattle.std.proofs.Common.{◌≡◌, ◌+◌, length, get_or}
 use Rattle.daachorse_array.specs.Tours.{IsLeaving}
 use Rattle.daachorse_array.proofs.trie.Trie.leave.Given as goal

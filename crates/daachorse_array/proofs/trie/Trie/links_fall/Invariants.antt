@@ -1,4 +1,4 @@
--- The link of each place so far, but the root, leads to an earlier place or is dead.
+-- The link of each rank so far, but the root, leads to an earlier rank or is dead.
 use Rattle.std.proofs.Common.{◌≡◌, ℕ, ◌<◌, ◌⊎◌, length, get_or}
 use Rattle.daachorse_array.proofs.trie.Trie.links_fall.Given as goal
 

@@ -1,4 +1,5 @@
--- The array has what is near here, the place to come to is on the way up from here, and what was saved is right all along it; each step leads to an earlier place, or above the root.
+-- The array has what is near here, the rank to come to is on the way up from here, and what was saved is right all along it; each step
+-- leads to an earlier rank, or above the root.
 use Rattle.std.proofs.Common.{◌≡◌, ℕ, suc, ◌≤◌, ◌==◌, cond, length}
 use Rattle.daachorse_array.specs.Near.{up, above, IsAbove, AreNear, IsSaved}
 use Rattle.daachorse_array.proofs.trie.Trie.retreat.Given as goal

@@ -1,6 +1,7 @@
--- The starts so far are right, and those of the parents of all places so far are among them; one loop goes on by a place, and the others add a start until that parent, or every place, has one.
+-- The starts so far are right, and those of the parents of all ranks so far are among them; one loop goes on by a rank, and the others add
+-- a start until that parent, or every rank, has one.
 use Rattle.std.proofs.Common.{◌≡◌, ℕ, suc, ◌<◌, ◌≤◌, ◌-◌, length, get_or}
-use Rattle.daachorse_array.specs.Places.{AreStartsTo}
+use Rattle.daachorse_array.specs.Ranks.{AreStartsTo}
 use Rattle.daachorse_array.proofs.trie.Trie.starts.Given as goal
 
 abbrev pub invariant-loop-m : goal.invariant-loop-m

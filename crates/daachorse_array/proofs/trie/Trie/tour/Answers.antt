@@ -1,4 +1,5 @@
--- A place is put in right behind its link, which stands already, since links fall; what came behind that link now comes behind the place, whose link path goes through that link.
+-- A rank is put in right behind its link, which stands already, since links fall; what came behind that link now comes behind the rank,
+-- whose link path goes through that link.
 use Rattle.std.proofs.Common.{◌≡◌, ◌<◌, ◌≤◌, length, subst, get_or, inl, inr, arith, add-one}
 use Rattle.std.proofs.lemmas.List.{get_or_read}
 use Rattle.daachorse_array.specs.Near.{up}
@@ -19,7 +20,8 @@ loop-m-preserved g c =
     let most : up fs m ≤ n = elim ups [ inl a ↦ omega (arith, a, lt) | inr b ↦ omega (arith, b) ] in
     let at : c.above-above.result ≡ up fs m = c.above-above.ensures in
     let low : c.above-above.result < length next = omega (arith, at, most, inv.tour.size) in
-    let read : c.index.result.now ≡ get_or next c.above-above.result 0 = get_or_read next c.above-above.result c.index.result.now low c.index.ensures 0 in
+    let read : c.index.result.now ≡ get_or next c.above-above.result 0 =
+        get_or_read next c.above-above.result c.index.result.now low c.index.ensures 0 in
     record {
       is = inv.is;
       tour = rw (add-one m, read, at) (tour_add (up fs) n next m inv.tour lt ups);

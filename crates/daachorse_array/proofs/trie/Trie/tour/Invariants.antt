@@ -1,4 +1,4 @@
--- The list leads through the places so far, each once, and the link of each is on the link path of the one before it.
+-- The list leads through the ranks so far, each once, and the link of each is on the link path of the one before it.
 use Rattle.std.proofs.Common.{◌≡◌, length}
 use Rattle.daachorse_array.specs.Near.{up}
 use Rattle.daachorse_array.specs.Tours.{IsTour}

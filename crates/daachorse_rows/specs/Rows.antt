@@ -1,5 +1,7 @@
--- Rows of the states near the root: of each label where the step ends. A place stands for a state: the first two slots of a row, in which the state is written, or behind all rows the states in order. Places count slots by two.
-use Rattle.std.specs.Prelude.{◌≡◌, ◌≢◌, ◌⊎◌, ℕ, Bool, true, false, zero, suc, ◌+◌, ◌*◌, ◌/◌, ◌%◌, ◌<◌, ◌≤◌, ◌^◌, List, [], ◌∷◌, length, slice_index, None}
+-- Rows of the states near the root: of each label where the step ends. A cell is two slots, and stands for a state: the first of a row,
+-- in which the state is written, or behind all rows the states in order.
+use Rattle.std.specs.Prelude.{◌≡◌, ◌≢◌, ◌⊎◌, ℕ, Bool, true, false, zero, suc, ◌+◌, ◌*◌, ◌/◌, ◌%◌, ◌<◌, ◌≤◌, ◌^◌, List, [], ◌∷◌, length}
+use Rattle.std.specs.Prelude.{slice_index, None}
 use Rattle.std.specs.List.{All}
 use Rattle.daachorse_core.specs.Looks.{IsForeign}
 use Rattle.daachorse_model.specs.Dictionary.{Dictionary}
@@ -14,18 +16,19 @@ exact_number a b same = same
 abbrev pub stands_by : {L : Type 0} → (L → ℕ) → (L → ℕ → Type 0) → ℕ → ℕ → Type 0
 stands_by {L} number stands n unit = (label : L) × (number label ≡ n) × stands label unit
 
--- the state that a place stands for: two slots hold it, the first its lower half
+-- the state that a cell stands for: two slots hold it, the first its lower half
 abbrev pub state_at : List ℕ → ℕ → ℕ
 state_at [] x = x
 state_at (low ∷ []) x = x
 state_at (low ∷ high ∷ top) zero = low + 65536 * high
 state_at (low ∷ high ∷ top) (suc x) = state_at top x
 
--- the places of a row, of so many labels: slots for its state, for the labels that are not listed and for each that is, up to an even number of places
-abbrev pub row_places : ℕ → ℕ
-row_places labels = (labels + 6) / 4 * 2
+-- how many cells a row has, of so many labels: slots for its state, for the labels that are not listed and for each that is,
+-- up to an even number of cells
+abbrev pub row_cells : ℕ → ℕ
+row_cells labels = (labels + 6) / 4 * 2
 
--- the slot of each label, the slots, the row of each state, how many rows of how many places there are, and the place of the root
+-- the slot of each label, the slots, the row of each state, how many rows of how many cells there are, and the cell of the root
 pub record RowTable : Type 0 where
   pub classes : List ℕ
   pub top : List ℕ
@@ -41,17 +44,17 @@ pub record Rowed (A : Type 0) : Type 0 where
 
 module _ (r : RowTable) where
   -- a row begins there, or it is behind the rows
-  abbrev pub IsPlace : ℕ → Type 0
-  IsPlace x = ((k : ℕ) × (k < r.count) × (x ≡ k * r.width)) ⊎ (r.count * r.width ≤ x)
+  abbrev pub IsCell : ℕ → Type 0
+  IsCell x = ((k : ℕ) × (k < r.count) × (x ≡ k * r.width)) ⊎ (r.count * r.width ≤ x)
 
-  -- it is a place, and stands for the state
+  -- it is a cell, and stands for the state
   pub record StandsFor (x s : ℕ) : Type 0 where
-    pub place : IsPlace x
+    pub cell : IsCell x
     pub state : state_at r.top x ≡ s
 
--- the place stands for the state, or for another with the same text
+-- the cell stands for the state, or for another with the same text
 pub record SharesText {V : Type 0} (view : AutomatonView V) (r : RowTable) (x s : ℕ) : Type 0 where
-  pub is_place : IsPlace r x
+  pub is_cell : IsCell r x
   pub is_state : view.reached (state_at r.top x)
   pub same : view.text (state_at r.top x) ≡ view.text s
 
@@ -61,27 +64,28 @@ pub record AreClosed (most : ℕ) (stands : ℕ → ℕ → Type 0) (r : RowTabl
   pub root : r.root < r.count * r.width
   pub stays : (k label : ℕ) → k < r.count → label < 638 → slice_index r.top (2 * (k * r.width) + slice_index r.classes label) ≢ 65535
 
--- what a search sees over rows: places stand for the states, and where the rows are closed, each look ends its step
+-- what a search sees over rows: cells stand for the states, and where the rows are closed, each look ends its step
 abbrev pub over_rows : {V : Type 0} → ℕ → AutomatonView V → (ℕ → ℕ → Type 0) → RowTable → AutomatonView V
 over_rows most view stands r = record view {
-  reached = λ x. IsPlace r x × view.reached (state_at r.top x) × (AreClosed most stands r → x < r.count * r.width);
+  reached = λ x. IsCell r x × view.reached (state_at r.top x) × (AreClosed most stands r → x < r.count * r.width);
   text = λ x. view.text (state_at r.top x);
   ends_at_once = AreClosed most stands r;
 }
 
--- what a slot holds for a state with a row: its place, which is even, and 1 more, unless the state is quiet; the rows end at `end`
+-- what a slot holds for a state with a row: its cell, which is even, and 1 more, unless the state is quiet; the rows end at `end`
 pub record IsSlotEntry (end : ℕ) (stands : ℕ → Type 0) (quiet : Type 0) (entry : ℕ) : Type 0 where
-  pub place : ℕ
-  pub stands_for : stands place
-  pub inside : place < end
-  pub even : (half : ℕ) × (place ≡ half * 2)
-  pub is : ((entry ≡ place) × quiet) ⊎ (entry ≡ place + 1)
+  pub cell : ℕ
+  pub stands_for : stands cell
+  pub inside : cell < end
+  pub even : (half : ℕ) × (cell ≡ half * 2)
+  pub is : ((entry ≡ cell) × quiet) ⊎ (entry ≡ cell + 1)
 
 module _ (labels : List ℕ) where
   -- the label's slot: behind the state that of the labels that are not listed, and then those of the labels in order
   abbrev pub IsSlotOf : ℕ → ℕ → Type 0
   IsSlotOf label slot =
-      ((k : ℕ) × (k < length labels) × (slice_index labels k ≡ label) × (slot ≡ 3 + k)) ⊎ ((slot ≡ 2) × ((k : ℕ) → k < length labels → slice_index labels k ≢ label))
+      ((k : ℕ) × (k < length labels) × (slice_index labels k ≡ label) × (slot ≡ 3 + k))
+          ⊎ ((slot ≡ 2) × ((k : ℕ) → k < length labels → slice_index labels k ≢ label))
 
   -- a slot for each label below n
   pub record AreSlots (n : ℕ) (classes : List ℕ) : Type 0 where
@@ -96,17 +100,18 @@ pub record IsListOf (holds : ℕ → Type 0) (n : ℕ) (listed : List ℕ) : Typ
 
 -- the labels below 638 that some key has are listed, none from 638 on, and none that stands for nothing
 pub record AreLabels {V : Type 0} (K : Dictionary V) (stands : ℕ → ℕ → Type 0) (labels : List ℕ) : Type 0 where
-  pub all : (label unit : ℕ) → label < 638 → stands label unit → IsForeign K unit ⊎ ((k : ℕ) × (k < length labels) × (slice_index labels k ≡ label))
+  pub all : (label unit : ℕ) → label < 638 → stands label unit → IsForeign K unit
+      ⊎ ((k : ℕ) × (k < length labels) × (slice_index labels k ≡ label))
   pub below : (k : ℕ) → k < length labels → slice_index labels k < 638
   pub none_idle : (k : ℕ) → k < length labels → (unit : ℕ) × stands (slice_index labels k) unit
 
--- an automaton, the labels that are listed for its rows, and how many places a row has
+-- an automaton, the labels that are listed for its rows, and how many cells a row has
 pub record Listed (A : Type 0) : Type 0 where
   pub automaton : A
   pub labels : List ℕ
   pub width : ℕ
 
--- the automaton as searches see it, what each label stands for, and those same labels and places
+-- the automaton as searches see it, what each label stands for, and those same labels and cells
 pub record Labelled (V : Type 0) : Type 1 where
   pub view : AutomatonView V
   pub stands : ℕ → ℕ → Type 0
@@ -115,13 +120,14 @@ pub record Labelled (V : Type 0) : Type 1 where
 
 -- what is so seen of an automaton and its labels
 abbrev pub labelled : {V A L : Type 0} → (A → AutomatonView V) → (A → L → ℕ → Type 0) → (L → ℕ) → Listed A → Labelled V
-labelled sees stands number of = record { view = sees of.automaton; stands = stands_by number (stands of.automaton); labels = of.labels; width = of.width }
+labelled sees stands number of =
+    record { view = sees of.automaton; stands = stands_by number (stands of.automaton); labels = of.labels; width = of.width }
 
 -- the labels are those of the automaton, few enough for slots, and a row has a slot for each
 pub record AreLabelled {V : Type 0} (seen : Labelled V) : Type 0 where
   pub labels : AreLabels seen.view.content seen.stands seen.labels
   pub few : length seen.labels ≤ 638
-  pub width : seen.width ≡ row_places (length seen.labels)
+  pub width : seen.width ≡ row_cells (length seen.labels)
 
 -- there is room for so many rows
 abbrev pub most_rows : {V : Type 0} → Labelled V → ℕ
@@ -147,7 +153,8 @@ pub record AreTooMany {V : Type 0} (view : AutomatonView V) (stands : ℕ → �
 
 -- each text of at most n units, each with a slot, that begins a key is that of a state with a row
 abbrev pub Covers : {V : Type 0} → AutomatonView V → (ℕ → ℕ → Type 0) → ℕ → RowTable → Type 0
-Covers view stands n r = (w : List ℕ) → IsPrefix view.content w → IsShallow stands n w → (k : ℕ) × (k < r.count) × (view.text (state_at r.top (k * r.width)) ≡ w)
+Covers view stands n r = (w : List ℕ) → IsPrefix view.content w → IsShallow stands n w → (k : ℕ) × (k < r.count)
+    × (view.text (state_at r.top (k * r.width)) ≡ w)
 
 -- no link is dead, states with the same text are the same, and each label below `most` has a slot
 pub record MayClose {V : Type 0} (most : ℕ) (view : AutomatonView V) (stands : ℕ → ℕ → Type 0) : Type 0 where
@@ -175,33 +182,40 @@ module _ {V : Type 0} (unit_width : ℕ → ℕ) (view : AutomatonView V) (stand
     pub inside : (label : ℕ) → label < 638 → slice_index r.classes label < 2 * r.width
     -- a slot tells where the step ends, but for 65,535, where that is a state with no row
     pub right : (k label : ℕ) → k < r.count → label < 638 → (t : ℕ) × StepLeads view stands (state_at r.top (k * r.width)) label t
-        × (((slice_index r.top (2 * (k * r.width) + slice_index r.classes label) ≡ 65535) × ((j : ℕ) → j < r.count → state_at r.top (j * r.width) ≢ t))
-        ⊎ IsSlotEntry (r.count * r.width) (λ x. StandsFor r x t) (HasFirst unit_width view t None) (slice_index r.top (2 * (k * r.width) + slice_index r.classes label)))
+        × (((slice_index r.top (2 * (k * r.width) + slice_index r.classes label) ≡ 65535)
+            × ((j : ℕ) → j < r.count → state_at r.top (j * r.width) ≢ t))
+        ⊎ IsSlotEntry (r.count * r.width) (λ x. StandsFor r x t) (HasFirst unit_width view t None)
+            (slice_index r.top (2 * (k * r.width) + slice_index r.classes label)))
     -- in the table of the states' rows 65,535 stands for none
-    pub homes : (s : ℕ) → s < length r.homes → slice_index r.homes s ≢ 65535 → (slice_index r.homes s < r.count) × (state_at r.top (slice_index r.homes s * r.width) ≡ s)
+    pub homes : (s : ℕ) → s < length r.homes → slice_index r.homes s ≢ 65535 → (slice_index r.homes s < r.count)
+        × (state_at r.top (slice_index r.homes s * r.width) ≡ s)
     pub small : (s : ℕ) → view.reached s → r.count * r.width + s < 2 ^ 32
     pub root_state : (s : ℕ) × StandsFor r r.root s × view.reached s × (view.text s ≡ [])
 
 -- ---- while they are made: `order` are the states of the rows
 
 module _ (order : List ℕ) (width : ℕ) where
-  -- the place stands for the state: its row's, where it has one
+  -- the cell stands for the state: its row's, where it has one
   abbrev pub Stands : ℕ → ℕ → Type 0
-  Stands x s = ((k : ℕ) × (k < length order) × (x ≡ k * width) × (slice_index order k ≡ s)) ⊎ ((x ≡ length order * width + s) × ((k : ℕ) → k < length order → slice_index order k ≢ s))
+  Stands x s = ((k : ℕ) × (k < length order) × (x ≡ k * width) × (slice_index order k ≡ s))
+      ⊎ ((x ≡ length order * width + s) × ((k : ℕ) → k < length order → slice_index order k ≢ s))
 
   -- what a slot holds for a state: 65,535, where it has no row
   abbrev pub IsEntry : ℕ → Type 0 → ℕ → Type 0
-  IsEntry t quiet v = ((v ≡ 65535) × ((k : ℕ) → k < length order → slice_index order k ≢ t)) ⊎ IsSlotEntry (length order * width) (λ x. Stands x t) quiet v
+  IsEntry t quiet v = ((v ≡ 65535) × ((k : ℕ) → k < length order → slice_index order k ≢ t))
+      ⊎ IsSlotEntry (length order * width) (λ x. Stands x t) quiet v
 
 -- the rows of the states of the rows
 abbrev pub AreHomes : List ℕ → List ℕ → Type 0
-AreHomes order homes = (s : ℕ) → s < length homes → slice_index homes s ≢ 65535 → (slice_index homes s < length order) × (slice_index order (slice_index homes s) ≡ s)
+AreHomes order homes = (s : ℕ) → s < length homes → slice_index homes s ≢ 65535 → (slice_index homes s < length order)
+    × (slice_index order (slice_index homes s) ≡ s)
 
 -- each state of the rows has its own
 abbrev pub AreOwn : List ℕ → List ℕ → Type 0
-AreOwn order homes = (k : ℕ) → k < length order → (slice_index order k < length homes) × (slice_index homes (slice_index order k) ≡ k) × (k < 65535)
+AreOwn order homes = (k : ℕ) → k < length order → (slice_index order k < length homes) × (slice_index homes (slice_index order k) ≡ k)
+    × (k < 65535)
 
--- each state of the rows has its own, and rows of so many places fit
+-- each state of the rows has its own, and rows of so many cells fit
 pub record HaveRows (order table : List ℕ) (width : ℕ) : Type 0 where
   pub homes : AreHomes order table
   pub own : AreOwn order table
@@ -245,7 +259,8 @@ module _ {V : Type 0} (seen : Labelled V) where
 
   -- the step by the listed label k from the state s ends at the text of a row's state
   abbrev pub EndsInRow : ℕ → ℕ → List ℕ → Type 0
-  EndsInRow s k order = (j : ℕ) × (j < length order) × ((unit : ℕ) → seen.stands (slice_index seen.labels k) unit → Steps seen.view s unit (slice_index order j))
+  EndsInRow s k order = (j : ℕ) × (j < length order)
+      × ((unit : ℕ) → seen.stands (slice_index seen.labels k) unit → Steps seen.view s unit (slice_index order j))
 
   -- so do those by each listed label from the first n rows, and the first row is the root's
   pub record AreStepped (n : ℕ) (order : List ℕ) : Type 0 where
@@ -254,7 +269,8 @@ module _ {V : Type 0} (seen : Labelled V) where
 
   -- each such text that begins a key is that of a row's state
   abbrev pub AreCovered : ℕ → List ℕ → Type 0
-  AreCovered n order = (w : List ℕ) → IsPrefix seen.view.content w → IsShallow seen.stands n w → (k : ℕ) × (k < length order) × (seen.view.text (slice_index order k) ≡ w)
+  AreCovered n order = (w : List ℕ) → IsPrefix seen.view.content w → IsShallow seen.stands n w → (k : ℕ) × (k < length order)
+      × (seen.view.text (slice_index order k) ≡ w)
 
   -- rows were added for the ends of steps from the first n rows
   pub record AreAdded (old new homes : List ℕ) (n : ℕ) : Type 0 where
@@ -277,7 +293,8 @@ module _ {V : Type 0} (seen : Labelled V) where
 module _ {V : Type 0} (unit_width : ℕ → ℕ) (seen : Labelled V) (order : List ℕ) where
   -- what the slot c of the row k holds for a label
   abbrev pub TellsStep : ℕ → ℕ → ℕ → ℕ → Type 0
-  TellsStep k c v label = (t : ℕ) × IsEntry order seen.width t (HasFirst unit_width seen.view t None) v × StepLeads seen.view seen.stands (slice_index order k) label t × (c ≡ 2 → seen.view.text t ≡ [])
+  TellsStep k c v label = (t : ℕ) × IsEntry order seen.width t (HasFirst unit_width seen.view t None) v
+      × StepLeads seen.view seen.stands (slice_index order k) label t × (c ≡ 2 → seen.view.text t ≡ [])
 
   -- the slot c of the row k
   abbrev pub IsSlot : ℕ → ℕ → ℕ → Type 0

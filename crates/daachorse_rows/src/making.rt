@@ -15,8 +15,8 @@ use std::alloc::{AllocError, Allocator};
 use std::marker::{Model, PhantomData};
 use std::num::NonZeroU32;
 
-/// The most places in rows, of two slots each. With the slots of the labels, rows take 248 KiB.
-const PLACES: u32 = 63_168;
+/// The most cells in rows, of two slots each. With the slots of the labels, rows take 248 KiB.
+const CELLS: u32 = 63_168;
 
 /// In place of the row of a state that has none.
 pub(crate) const NO_ROW: u16 = 65_535;
@@ -24,7 +24,7 @@ pub(crate) const NO_ROW: u16 = 65_535;
 /// The slot of a step that leaves the rows.
 pub(crate) const OUTSIDE: u16 = 65_535;
 
-/// An automaton of more states gets no rows, since each place has to be below 2^32.
+/// An automaton of more states gets no rows, since each cell has to be below 2^32.
 const MOST_STATES: u32 = 4_294_901_760;
 
 /// The slot, in a row, of the label of a number: 2 for all labels that are not listed.
@@ -65,7 +65,7 @@ pub(crate) struct Chosen<L: Allocator> {
 }
 
 impl<L: Allocator> Chosen<L> {
-    /// Where the rows end and the places of other states begin.
+    /// Where the rows end and the cells of other states begin.
     fn end(&self, width: u32) -> u32
         requires { HaveRows self.now.order.items self.now.homes.items width }
         ensures { result ≡ length self.now.order.items * width }
@@ -73,8 +73,8 @@ impl<L: Allocator> Chosen<L> {
         self.order.len() as u32 * width
     }
 
-    /// The place of a state.
-    pub(crate) fn place(&self, state: u32, width: u32) -> u32
+    /// The cell of a state.
+    pub(crate) fn cell(&self, state: u32, width: u32) -> u32
         requires rows { HaveRows self.now.order.items self.now.homes.items width }
         requires fits { state + 65536 < 2 ^ 32 }
         ensures { Stands self.now.order.items width result state }
@@ -86,20 +86,20 @@ impl<L: Allocator> Chosen<L> {
         self.end(width) + state
     }
 
-    /// The slot of a step to this state, whose outputs begin at `position`: its place, which is
+    /// The slot of a step to this state, whose outputs begin at `position`: its cell, which is
     /// even, plus 1 if there are outputs.
     fn entry(&self, state: u32, position: Option<NonZeroU32>, width: u32) -> u16
         requires rows { HaveRows self.now.order.items self.now.homes.items width }
         requires fits { state + 65536 < 2 ^ 32 }
         ensures { IsEntry self.now.order.items width state (position ≡ None) result }
     {
-        let place = self.place(state, width);
-        if place >= self.end(width) {
+        let cell = self.cell(state, width);
+        if cell >= self.end(width) {
             return OUTSIDE;
         }
         match position {
-            None => place as u16,
-            Some(_) => place as u16 + 1,
+            None => cell as u16,
+            Some(_) => cell as u16 + 1,
         }
     }
 }
@@ -114,7 +114,7 @@ where
     pub(crate) automaton: &'a A,
     // Those that are listed.
     pub(crate) labels: &'a [A::Label],
-    // The places of a row.
+    // How many cells a row has.
     pub(crate) width: u32,
     pub(crate) of: PhantomData<V>,
 }
@@ -216,7 +216,7 @@ where
         requires stepped { AreStepped (labelled A.sees A.labels A.Label.number self.now) at chosen.old.order.items }
         ensures { IfOk result (IsRound (labelled A.sees A.labels A.Label.number self.now) chosen.old.order.items chosen.new.order.items chosen.new.homes.items (at + 1)) }
     {
-        let most = (PLACES / self.width) as usize;
+        let most = (CELLS / self.width) as usize;
         for k in 0..self.labels.len() {
             if let Some(next) = self.end_outside(chosen, at, k) {
                 if chosen.order.len() == most {
@@ -297,7 +297,7 @@ where
     }
 
     /// Writes a row: its state, the root for labels that are not listed, and the end of the step by
-    /// each listed label. The rest of its places is filled up.
+    /// each listed label. The rest of its cells is filled up.
     fn write_row(
         &self,
         chosen: &Chosen<L>,

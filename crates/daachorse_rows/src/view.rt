@@ -1,7 +1,7 @@
 //! An automaton with rows, as searches see it.
 
 ghost use Rattle.std.specs.Prelude.{◌≡◌, ◌+◌, ◌*◌, ◌<◌, slice_index};
-ghost use Rattle.daachorse_rows.specs.Rows.{AreRows, IsPlace, SharesText, StandsFor, stands_by, state_at};
+ghost use Rattle.daachorse_rows.specs.Rows.{AreRows, IsCell, SharesText, StandsFor, stands_by, state_at};
 
 use crate::label::{RowLabel, SLOTTED};
 use crate::making::{NO_ROW, OUTSIDE};
@@ -13,8 +13,8 @@ use std::num::NonZeroU32;
 
 /// An automaton, and rows of some of its states.
 ///
-/// A state is given by its place, in units of two slots: that of its row, if it has one, or its
-/// number after all rows.
+/// A state is given by its cell, which is two slots: the first of its row, if it has one, or that
+/// of its number after all rows.
 #[derive(Drop)]
 pub struct RowView<'a, V: Copy, A: Automaton<V>>
 where
@@ -79,7 +79,7 @@ where
         }
     }
 
-    /// Where the rows end and the places of other states begin. Its contract says that the rows are
+    /// Where the rows end and the cells of other states begin. Its contract says that the rows are
     /// right.
     #[inline(always)]
     fn end(&self) -> usize
@@ -89,24 +89,24 @@ where
         self.top.len() / 2
     }
 
-    /// The state of a place.
+    /// The state of a cell.
     #[inline(always)]
-    fn state(&self, place: u32) -> u32
-        requires { (A.sees self.now.automaton).reached (state_at self.now.rows.top place) }
-        ensures { result ≡ state_at self.now.rows.top place }
+    fn state(&self, cell: u32) -> u32
+        requires { (A.sees self.now.automaton).reached (state_at self.now.rows.top cell) }
+        ensures { result ≡ state_at self.now.rows.top cell }
     {
-        let place = place as usize;
-        if place < self.end() {
-            let low = self.top[2 * place];
-            let high = self.top[2 * place + 1];
+        let cell = cell as usize;
+        if cell < self.end() {
+            let low = self.top[2 * cell];
+            let high = self.top[2 * cell + 1];
             return low as u32 + 65_536 * high as u32;
         }
-        (place - self.end()) as u32
+        (cell - self.end()) as u32
     }
 
-    /// The place of a state.
+    /// The cell of a state.
     #[inline(always)]
-    fn place(&self, state: u32) -> u32
+    fn cell(&self, state: u32) -> u32
         ensures { (A.sees self.now.automaton).reached state → StandsFor self.now.rows result state }
     {
         let index = state as usize;
@@ -116,23 +116,23 @@ where
         (self.end() as u32).wrapping_add(state)
     }
 
-    /// The slot of the label `number` in the row that begins at a place.
-    // The column is found first, so that one load alone waits for the place.
+    /// The slot of the label `number` in the row that begins at a cell.
+    // The column is found first, so that one load alone waits for the cell.
     #[inline(always)]
-    fn slot(&self, place: usize, number: usize) -> u32
-        requires place { IsPlace self.now.rows place }
-        requires inside { place < self.now.rows.count * self.now.rows.width }
+    fn slot(&self, cell: usize, number: usize) -> u32
+        requires cell { IsCell self.now.rows cell }
+        requires inside { cell < self.now.rows.count * self.now.rows.width }
         requires label { number < 638 }
-        ensures { result ≡ slice_index self.now.rows.top (2 * place + slice_index self.now.rows.classes number) }
+        ensures { result ≡ slice_index self.now.rows.top (2 * cell + slice_index self.now.rows.classes number) }
     {
         let column = &self.top[self.classes[number] as usize..];
-        column[2 * place] as u32
+        column[2 * cell] as u32
     }
 
-    /// The place of a state at which a look outside the rows ends a step. No row is looked for: the
+    /// The cell of a state at which a look outside the rows ends a step. No row is looked for: the
     /// states with rows, but for the root, are reached from rows.
     #[inline(always)]
-    fn place_below(&self, state: u32) -> u32
+    fn cell_below(&self, state: u32) -> u32
         ensures { (A.sees self.now.automaton).reached state → SharesText (A.sees self.now.automaton) self.now.rows result state }
     {
         if state == self.automaton.root() {
@@ -175,10 +175,10 @@ where
 
     #[inline(always)]
     fn turn(&self, state: u32, label: A::Label, turns: &mut Turns) -> Look {
-        let place = state as usize;
+        let cell = state as usize;
         let number = label.index();
-        if place < self.end() && number < SLOTTED as usize {
-            let entry = self.slot(place, number);
+        if cell < self.end() && number < SLOTTED as usize {
+            let entry = self.slot(cell, number);
             if entry % 2 == 0 {
                 turns.tick();
                 return Look::Next(entry, None);
@@ -190,8 +190,8 @@ where
             }
         }
         match self.automaton.turn(self.state(state), label, turns) {
-            Look::Next(next, position) => Look::Next(self.place_below(next), position),
-            Look::Fail(link) => Look::Fail(self.place(link)),
+            Look::Next(next, position) => Look::Next(self.cell_below(next), position),
+            Look::Fail(link) => Look::Fail(self.cell(link)),
         }
     }
 

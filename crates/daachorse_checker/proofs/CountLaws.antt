@@ -1,4 +1,4 @@
--- As many texts lead to an element as there are places: one to each.
+-- As many texts lead to an element as there are ranks: one to each.
 use Rattle.std.proofs.Common.{◌≡◌, ℕ, ◌<◌, Bool, true, List, length, Option, Some, sym, ◌∙◌, arith, get_or}
 use Rattle.std.specs.Set.{is_member}
 use Rattle.std.specs.Cmp.{nat_eq_equiv}
@@ -9,19 +9,20 @@ use Rattle.daachorse_model.specs.Units.{same_text}
 use Rattle.daachorse_model.specs.Paths.{is_reached}
 use Rattle.daachorse_model.specs.Prefixes.{PassesAt}
 use Rattle.daachorse_array.proofs.ReachedCount.{reached-counted}
-use Rattle.daachorse_checker.specs.Places.{HasOnePath, ArePlaces}
-use Rattle.daachorse_checker.proofs.PlaceLaws.{same_place}
+use Rattle.daachorse_checker.specs.Ranks.{HasOnePath, AreRanks}
+use Rattle.daachorse_checker.proofs.RankLaws.{same_rank}
 use Rattle.daachorse_checker.proofs.TreeLaws.{text_at, found}
 
-module _ {child : ℕ → ℕ → Option ℕ} {label : ℕ → ℕ} {n : ℕ} {order parents labels marks : List ℕ} (are : ArePlaces child label n order parents labels marks) (tree : HasOnePath child)
+module _ {child : ℕ → ℕ → Option ℕ} {label : ℕ → ℕ} {n : ℕ} {order parents labels marks : List ℕ}
+    (are : AreRanks child label n order parents labels marks) (tree : HasOnePath child)
     (unit : (s c t : ℕ) → (m : ℕ) × (m < length order) × (get_or order m 0 ≡ s) → child s c ≡ Some t → c ≡ label t) where
-  -- one text leads to each place
-  pub places_counted : PassesAt (is_reached child) (length order)
-  places_counted =
+  -- one text leads to each rank
+  pub ranks_counted : PassesAt (is_reached child) (length order)
+  ranks_counted =
       reached-counted child tree.one_path (length order) (λ m. get_or order m 0)
-      (λ k m less lt e. let same : m ≡ k = same_place are.places m k lt (omega (arith, less, lt)) e in omega (arith, same, less))
-      (text_at are.places)
-      (found are.places unit are.closed)
+      (λ k m less lt e. let same : m ≡ k = same_rank are.ranks m k lt (omega (arith, less, lt)) e in omega (arith, same, less))
+      (text_at are.ranks)
+      (found are.ranks unit are.closed)
 
 -- ---- one count
 same_bool : (p q : Bool) → (p ≡ true → q ≡ true) → (q ≡ true → p ≡ true) → p ≡ q

@@ -1,5 +1,5 @@
 pub mod MemberLaws
-pub mod PlaceLaws
+pub mod RankLaws
 pub mod TreeLaws
 pub mod ExpandLaws
 pub mod RunLaws

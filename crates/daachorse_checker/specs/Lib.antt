@@ -1,4 +1,4 @@
-pub mod Places
+pub mod Ranks
 pub mod Runs
 pub mod Links
 pub mod Sizes

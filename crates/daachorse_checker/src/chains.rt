@@ -1,20 +1,20 @@
-//! The output chains of the elements that have places, and the sizes of their texts.
+//! The output chains of the elements that have ranks, and the sizes of their texts.
 
 ghost use Rattle.std.specs.Prelude.{◌≡◌, ◌<◌, ◌≤◌, ◌^◌, ◌↔◌, ℕ, IsTrue, Some, length, slice_index, IfOk, IfErr};
 ghost use Rattle.daachorse_core.specs.Refusals.{IsOutOfMemory};
 ghost use Rattle.daachorse_checker.specs.Chains.{AreLeavesOf, IsChained, machine_of};
-ghost use Rattle.daachorse_checker.specs.Places.{HasOnePath, ArePlacesOf};
+ghost use Rattle.daachorse_checker.specs.Ranks.{HasOnePath, AreRanksOf};
 ghost use Rattle.daachorse_checker.specs.Runs.{AreRuns};
 ghost use Rattle.daachorse_checker.specs.Sizes.{AreSizes};
 
-use crate::places::Places;
+use crate::ranks::Ranks;
 use crate::runs::{has_own, rest_at};
 use daachorse_array::array::Array;
 use daachorse_core::errors::Result;
 use daachorse_core::{DEAD_STATE_IDX, Output};
 use std::alloc::Allocator;
 
-/// Whether each place has no child.
+/// Whether each rank has no child.
 ///
 /// # Errors
 /// Out of memory.
@@ -25,34 +25,34 @@ pub fn leaves<A: Allocator>(alloc: A, parents: &[u32]) -> Result<Vec<bool, A>>
     ensures err { IfErr result IsOutOfMemory }
 {
     let mut leaves = vec![in alloc; true; parents.len()]?;
-    for place in 1..parents.len() {
-        leaves[parents[place] as usize] = false;
+    for rank in 1..parents.len() {
+        leaves[parents[rank] as usize] = false;
     }
     Ok(leaves)
 }
 
-/// The size of each place's text, in bytes.
+/// The size of each rank's text, in bytes.
 ///
 /// # Errors
 /// Out of memory.
 pub fn sizes<E: Array, A: Allocator + Copy>(
     alloc: A,
     array: &E,
-    places: &Places<A>,
+    ranks: &Ranks<A>,
 ) -> Result<Vec<usize, A>>
     requires inside { let view = E.sees array.now in (i c j : ℕ) → view.child i c ≡ Some j → (j < view.count) × (c < view.units) }
     requires tree { HasOnePath (E.sees array.now).child }
-    requires places { ArePlacesOf (E.sees array.now) places.now }
+    requires ranks { AreRanksOf (E.sees array.now) ranks.now }
     requires few { (E.sees array.now).count < 2 ^ 32 }
-    ensures ok { let view = E.sees array.now in IfOk result (λ sizes. AreSizes view.child view.width places.now.order.items sizes.items) }
-    ensures each { IfOk result (λ sizes. length sizes.items ≡ length places.now.order.items) }
+    ensures ok { let view = E.sees array.now in IfOk result (λ sizes. AreSizes view.child view.width ranks.now.order.items sizes.items) }
+    ensures each { IfOk result (λ sizes. length sizes.items ≡ length ranks.now.order.items) }
     ensures err { IfErr result IsOutOfMemory }
 {
-    let mut sizes = Vec::with_capacity(alloc, places.order.len())?;
+    let mut sizes = Vec::with_capacity(alloc, ranks.order.len())?;
     sizes.push(0)?;
-    for place in 1..places.order.len() {
-        let parent = places.parents[place] as usize;
-        let size = sizes[parent] + array.width(places.labels[place]);
+    for rank in 1..ranks.order.len() {
+        let parent = ranks.parents[rank] as usize;
+        let size = sizes[parent] + array.width(ranks.labels[rank]);
         sizes.push(size)?;
     }
     Ok(sizes)

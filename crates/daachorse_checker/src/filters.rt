@@ -6,7 +6,7 @@ ghost use Rattle.daachorse_array.specs.Arrays.{AreGroups, HasEdges};
 ghost use Rattle.daachorse_array.specs.Listing.{has_own, unit_of};
 ghost use Rattle.daachorse_prefilter.specs.Windows.{HasRead};
 ghost use Rattle.daachorse_checker.specs.Filters.{HasRefused, IsNextOf, IsPushed, PassesAll};
-ghost use Rattle.daachorse_checker.specs.Places.{HasOnePath};
+ghost use Rattle.daachorse_checker.specs.Ranks.{HasOnePath};
 
 use daachorse_array::array::{Array, has_own};
 use daachorse_array::siblings::Siblings;

@@ -8,6 +8,6 @@ pub mod checker;
 pub mod filters;
 pub mod folded;
 pub mod links;
-pub mod places;
 pub mod ranges;
+pub mod ranks;
 pub mod runs;

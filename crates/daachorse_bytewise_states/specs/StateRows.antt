@@ -24,6 +24,6 @@ StaysInRows r = AreClosed 256 stands_for r
 abbrev pub StaysUnlessLarge : {V : Type 0} → Parts V → RowTable → Type 0
 StaysUnlessLarge p r = ClosesOrFills 256 (sees p) stands_for 485 r
 
--- more than 485 states have a text of at most two bytes, or the elements are more than there are places
+-- more than 485 states have a text of at most two bytes, or the elements are more than there are cells
 abbrev pub HasNoRoom : {V : Type 0} → Parts V → Type 0
 HasNoRoom p = AreTooMany (sees p) stands_for 2 485 ⊎ (4294901760 < count p)

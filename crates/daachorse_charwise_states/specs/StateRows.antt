@@ -9,7 +9,8 @@ use Rattle.daachorse_charwise_states.specs.Valid.{has_code, sees}
 
 -- an ASCII character is its own label, and any other has one behind these, by its code
 abbrev pub stands_for : {V : Type 0} → Parts V → ℕ → ℕ → Type 0
-stands_for p label unit = ((unit < 128) × (label ≡ unit)) ⊎ ((128 ≤ unit) × (code : ℕ) × (char_code p.coding unit ≡ Some code) × (label ≡ 128 + code))
+stands_for p label unit =
+    ((unit < 128) × (label ≡ unit)) ⊎ ((128 ≤ unit) × (code : ℕ) × (char_code p.coding unit ≡ Some code) × (label ≡ 128 + code))
 
 -- what a search with rows sees: each ASCII character has a label
 abbrev pub sees_ascii : {V : Type 0} → Parts V → AutomatonView V
@@ -17,7 +18,8 @@ sees_ascii p = record (sees p) { has_label = λ unit. nat_lt unit 128 || has_cod
 
 -- the label is that of an ASCII character with a code, or that of the code of another
 abbrev pub IsUsed : {V : Type 0} → Lettered V → ℕ → Type 0
-IsUsed a label = ((label < 128) × (has_code a.parts label ≡ true)) ⊎ ((unit code : ℕ) × (128 ≤ unit) × (character_of a code ≡ Some unit) × (label ≡ 128 + code))
+IsUsed a label = ((label < 128) × (has_code a.parts label ≡ true))
+    ⊎ ((unit code : ℕ) × (128 ≤ unit) × (character_of a code ≡ Some unit) × (label ≡ 128 + code))
 
 abbrev pub HasRows : {V : Type 0} → Parts V → RowTable → Type 0
 HasRows p r = AreRows char_width (sees_ascii p) (stands_by (λ (label : ℕ). label) (stands_for p)) r
@@ -38,6 +40,6 @@ StaysInRows p r = AreClosed (2 ^ 32) (stands_by (λ (label : ℕ). label) (stand
 abbrev pub StaysUnlessLarge : {V : Type 0} → Parts V → RowTable → Type 0
 StaysUnlessLarge p r = ClosesOrFills (2 ^ 32) (sees_ascii p) (stands_by (λ (label : ℕ). label) (stands_for p)) 196 r
 
--- more than 196 states have a text of at most two such characters, or the elements are more than there are places
+-- more than 196 states have a text of at most two such characters, or the elements are more than there are cells
 abbrev pub HasNoRoom : {V : Type 0} → Parts V → Type 0
 HasNoRoom p = AreTooMany (sees_ascii p) (stands_by (λ (label : ℕ). label) (stands_for p)) 2 196 ⊎ (4294901760 < count p)

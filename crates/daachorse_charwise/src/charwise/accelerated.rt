@@ -249,7 +249,7 @@ impl<'a, V: Copy + 'a, A: Allocator> Lends<'a, char> for Rowed<V, A> {
         self.rows.view(ForRows::new(self.automaton.standard()))
     }
 
-    /// None: a stepper over rows stands at a place, and not at a state.
+    /// None: a stepper over rows stands at a cell, and not at a state.
     #[inline(always)]
     fn depths(&'a self) -> &'a [u32] {
         &[]

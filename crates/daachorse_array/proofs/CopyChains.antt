@@ -37,7 +37,7 @@ module _ {V : Type 0} (outputs : List (Output V)) where
           let len : length_of o ≡ m = ap (λ (x : V × ℕ). x.1) same in
           let test : (length_of o == n) ≡ false = grind (arith, len, other) in
           ap (λ x. own_step outputs x n p (λ r. own_from outputs steps n r)) is
-              ∙ ap (λ b. own_next outputs b o p (own_from outputs steps n (parent_of o))) test
+          ∙ ap (λ b. own_next outputs b o p (own_from outputs steps n (parent_of o))) test
 
   -- the values of length n that come first are those up to where they stop
   pub own-passes : ParentsFall outputs → (steps n p q : ℕ) (vs : List V) → p ≤ steps → Passes outputs p (map (λ v. (v, n)) vs) q → Stops n q
@@ -52,7 +52,7 @@ module _ {V : Type 0} (outputs : List (Output V)) where
       let test : (length_of o == n) ≡ true = grind (arith, len) in
       let low : parent_of o ≤ p = falls p o is in
       let rest : own_from outputs steps n (parent_of o) ≡ (vs, q) =
-          own-passes falls steps n (parent_of o) q vs (omega (arith, low, h)) more stops in
+      own-passes falls steps n (parent_of o) q vs (omega (arith, low, h)) more stops in
       ap (λ x. own_step outputs x n p (λ r. own_from outputs steps n r)) is
       ∙ ap (λ b. own_next outputs b o p (own_from outputs steps n (parent_of o))) test
       ∙ ap (λ (r : List V × ℕ). (value_of o ∷ r.0, r.1)) rest
@@ -101,9 +101,9 @@ module _ {V : Type 0} (width : ℕ → ℕ) (wide : (u : ℕ) → 1 ≤ width u)
       (t.output s) ≡ (K w, next_output t w s)
   own-held s w e =
       own-passes outputs holds.parents_fall (t.output s) (size width w) (t.output s) (next_output t w s) (K w) (omega arith)
-          (holds.chains s w e)
+      (holds.chains s w e)
       (next_stops (size width w) s w e (omega arith)
-          (λ r v shorter leads low. stops_in (length v) (size width w) r v (omega arith) leads low))
+      (λ r v shorter leads low. stops_in (length v) (size width w) r v (omega arith) leads low))
 
   module _ (a : Machine V) (idx : ℕ → ℕ) (copy : IsCopy t outputs a idx) where
     -- the same of an element

@@ -14,8 +14,10 @@ pub counted-prefixes : {V : Type 0} (width : ℕ → ℕ) (a : Machine V) (leftm
 counted-prefixes width a leftmost n m k h counted = record {
   texts = counted.texts;
   distinct = counted.distinct;
-  exactly = λ w. (λ p. (counted.exactly w).0 (back width a leftmost n m h w p),
-      λ c. fore width a leftmost n m h w ((counted.exactly w).1 c));
+  exactly = λ w. (
+    λ p. (counted.exactly w).0 (back width a leftmost n m h w p),
+    λ c. fore width a leftmost n m h w ((counted.exactly w).1 c),
+  );
   count = counted.count;
 }
 
@@ -36,4 +38,4 @@ module _ (child : ℕ → ℕ → Option ℕ) (n : ℕ) (counted : PassesAt (is_
           let left : get_or counted.texts (at j).0 (take j w) ≡ take j w = (at j).2 in
           let right : get_or counted.texts (at k).0 (take k w) ≡ take k w = (at k).2 in
           sym left ∙ (get_or_default counted.texts (at j).0 (take j w) (take k w) (at j).1
-              ∙ (ap (λ q. get_or counted.texts q (take k w)) e ∙ right))
+          ∙ (ap (λ q. get_or counted.texts q (take k w)) e ∙ right))

@@ -41,7 +41,7 @@ module _ (child : ℕ → ℕ → Option ℕ) (n m : ℕ) where
   entries-written last_text new depth most (e ∷ l) same low h =
       let fewer : e.0 - 1 ≤ depth - 1 = omega (arith, h.0, low) in
       let begun : take (e.0 - 1) new ≡ take (e.0 - 1) last_text = sym (take-take (e.0 - 1) (depth - 1) new fewer)
-          ∙ (ap (take (e.0 - 1)) same ∙ take-take (e.0 - 1) (depth - 1) last_text fewer) in
+      ∙ (ap (take (e.0 - 1)) same ∙ take-take (e.0 - 1) (depth - 1) last_text fewer) in
       (h.0, (h.1.0, begun ∙ h.1.1), entries-written last_text new depth e.0 l same (omega (arith, h.0, low)) h.2)
 
 module _ {child : ℕ → ℕ → Option ℕ} {n m : ℕ} (tree : IsTree child n m) where
@@ -61,19 +61,19 @@ module _ {child : ℕ → ℕ → Option ℕ} {n m : ℕ} (tree : IsTree child n
   text-written tell last_text new x zero r e none some = none refl ∙ sym (nil_from_length (text child n m x) (sym e.0))
   text-written {edge = edge} tell last_text new x (suc k) r e none some =
       let other : x ≢ 0 = λ root. (let long = e.0 ∙ (ap (λ i. length (text child n m i)) root ∙ ap length (root-text tree)) in
-          omega (arith, long)) in
+      omega (arith, long)) in
       let parent = parent-of x r other in
       let p = parent.0 in
       let c = parent.1 in
       let longer : text child n m x ≡ text child n m p ++ c ∷ [] = child-text tree p c x parent.2 parent.3 in
       let count : k ≡ length (text child n m p) = (let long = e.0 ∙ ap length longer in
-          omega (arith, long, length-append (text child n m p) (c ∷ []))) in
+      omega (arith, long, length-append (text child n m p) (c ∷ []))) in
       let unit : unit_of (edge x) ≡ c = unit-is tell p c x (reached-inside tree p parent.2) parent.3 in
       let back : suc k - 1 ≡ k = omega arith in
       let begun : take (suc k - 1) last_text ≡ text child n m p =
       e.1 ∙ (ap (λ j. take j (text child n m x)) back
-          ∙ (ap (take k) longer ∙ (take-append-le k (text child n m p) (c ∷ []) (omega (arith, count))
-          ∙ take_all k (text child n m p) (omega (arith, count))))) in
+      ∙ (ap (take k) longer ∙ (take-append-le k (text child n m p) (c ∷ []) (omega (arith, count))
+      ∙ take_all k (text child n m p) (omega (arith, count))))) in
       some (omega arith) ∙ (ap (λ w. w ++ unit_of (edge x) ∷ []) begun ∙ (ap (λ u. text child n m p ++ u ∷ []) unit ∙ sym longer))
 
   -- the text of an element is that of its children but for the last unit

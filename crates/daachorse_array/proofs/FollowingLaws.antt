@@ -23,7 +23,7 @@ module _ {parents labels : List ℕ} {alphabet : ℕ} (trie : IsTrieOfRanks pare
       → m ≡ pick (child parents labels p c) 0
   is_picked m p c pos lt e g =
       sym (ap (λ o. pick o 0) (sym (ap (λ x. child parents labels x (get_or labels m 0)) e ∙ ap (λ x. child parents labels p x) g)
-          ∙ edge parents labels alphabet trie m pos lt))
+      ∙ edge parents labels alphabet trie m pos lt))
 
   -- no child is found where none has the label
   pub none_picked : (starts : List ℕ) (p c : ℕ) → AreStarts parents starts → p < length parents
@@ -33,9 +33,12 @@ module _ {parents labels : List ℕ} {alphabet : ℕ} (trie : IsTrieOfRanks pare
     | Some m ↦ λ e.
         let r = back parents labels alphabet trie p c m e in
         let low : get_or starts p 0 ≤ m =
-            elim (cases_lt m (get_or starts p 0)) [ inl h ↦ absurd (not_before parents starts are p within m r.0 h r.2) | inr h ↦ h ] in
-        let high : m < get_or starts (p + 1) 0 = elim (cases_lt m (get_or starts (p + 1) 0)) [ inl h ↦ h | inr h ↦
-            absurd (not_after parents starts are p within m h r.1 r.2) ] in
+        elim (cases_lt m (get_or starts p 0)) [ inl h ↦ absurd (not_before parents starts are p within m r.0 h r.2) | inr h ↦ h ] in
+        let high : m < get_or starts (p + 1) 0 = elim (cases_lt m (get_or starts (p + 1) 0)) [
+          | inl h ↦ h
+          | inr h ↦
+              absurd (not_after parents starts are p within m h r.1 r.2)
+        ] in
         absurd (none m low high r.3)
   ]) refl
 
@@ -54,15 +57,21 @@ module _ {parents labels : List ℕ} {alphabet : ℕ} (trie : IsTrieOfRanks pare
     module _ {p c below here : ℕ} (is : IsFollowing parents labels stops fails p c below here) where
       -- it is at a rank, or at the top
       pub following_low : here ≤ length fails
-      following_low = elim (ups fails falls below below (omega arith) is.low) [ inl h ↦ omega (arith, h, is.above, is.low) | inr h ↦
-          omega (arith, h, is.above) ]
+      following_low = elim (ups fails falls below below (omega arith) is.low) [
+        | inl h ↦ omega (arith, h, is.above, is.low)
+        | inr h ↦
+            omega (arith, h, is.above)
+      ]
 
       -- it goes on from a rank without a child by the label
       pub following_next : here < length fails → child parents labels here c ≡ None
           → IsFollowing parents labels stops fails p c here (up fails here)
       following_next lt none =
-          let fall : up fails below < below = elim (ups fails falls below below (omega arith) is.low) [ inl h ↦ h | inr h ↦
-              absurd (omega (arith, h, is.above, lt)) ] in
+          let fall : up fails below < below = elim (ups fails falls below below (omega arith) is.low) [
+            | inl h ↦ h
+            | inr h ↦
+                absurd (omega (arith, h, is.above, lt))
+          ] in
           record {
             low = lt;
             above = refl;
@@ -78,7 +87,7 @@ module _ {parents labels : List ℕ} {alphabet : ℕ} (trie : IsTrieOfRanks pare
       following_found m j t lt some =
           let pos = (back parents labels alphabet trie here c j some).0 in
           let e : near parents labels fails (up fails p) c ≡ j = is.same_near
-              ∙ near_child parents labels fails alphabet trie each here (fall_to fails falls here) here c j (omega arith) lt some in
+          ∙ near_child parents labels fails alphabet trie each here (fall_to fails falls here) here c j (omega arith) lt some in
           let same : or_top j t ≡ or_top (near parents labels fails (up fails p) c) (top stops fails p) =
           or_top_some j t pos ∙ sym (or_top_some j (top stops fails p) pos) ∙ ap (λ x. or_top x (top stops fails p)) (sym e) in
           ap (λ x. cond (stop stops m) (length fails) x) same
@@ -89,5 +98,5 @@ module _ {parents labels : List ℕ} {alphabet : ℕ} (trie : IsTrieOfRanks pare
       following_end m e =
           let z : near parents labels fails (up fails p) c ≡ 0 = is.same_near ∙ near_top parents labels fails alphabet trie each here c e in
           let t : top stops fails p ≡ root_value stops (length fails) below = is.same_top
-              ∙ top_end (up fails) stops (length fails) (length fails) below (sym is.above ∙ e) in
+          ∙ top_end (up fails) stops (length fails) (length fails) below (sym is.above ∙ e) in
           ap (λ x. cond (stop stops m) (length fails) x) (ap (λ x. or_top 0 x) (sym t) ∙ ap (λ x. or_top x (top stops fails p)) (sym z))

@@ -16,7 +16,7 @@ pub key_begins-push : {V : Type 0} (K : Dictionary V) (t w : List ℕ) (c : ℕ)
 key_begins-push K t [] c = grind arith
 key_begins-push K t (a ∷ w) c =
     let rest = key_begins-push K (t ++ a ∷ []) w c ∙ ap (λ v. key_begins K (t ++ a ∷ []) w || is_key K v)
-        (append_assoc t (a ∷ []) (w ++ c ∷ [])) in
+    (append_assoc t (a ∷ []) (w ++ c ∷ [])) in
     grind arith
 
 module _ (child : ℕ → ℕ → Option ℕ) (stops : ℕ → Bool) (dead : ℕ) where
@@ -142,7 +142,7 @@ module _ (child : ℕ → ℕ → Option ℕ) (stops : ℕ → Bool) (dead : ℕ
         → IsRankOf child dead (cond (stops t) None (after (left_link child stops d ds) c)) r → IsLinkOf child stops dead t r
     link_at s c t r d ds at edge is =
         link_text t r d (ds ++ c ∷ []) (walk-push child 0 (d ∷ ds) c s at ∙ edge)
-            (subst (λ o. IsRankOf child dead o r) (sym (link_push s c t d ds at edge)) is)
+        (subst (λ o. IsRankOf child dead o r) (sym (link_push s c t d ds at edge)) is)
 
     -- a child that stops is dead
     pub dead_by_stop : (s : ℕ) (c : ℕ) (t : ℕ) (d : ℕ) (ds : List ℕ) → walk child 0 (d ∷ ds) ≡ Some s → child s c ≡ Some t → stops t ≡ true

@@ -49,13 +49,17 @@ module _ (parents labels : List ℕ) (stops : List Bool) (fails : List ℕ) (alp
   module _ (b : ℕ) (falls : Falls b) where
     value_child : (q c j : ℕ) → q ≤ b → q < n → kid q c ≡ Some j → value q c ≡ j
     value_child q c j le lt e =
-        grind (arith, or_top_some, near_child parents labels fails alphabet trie each b falls q c j le lt e,
-            back parents labels alphabet trie q c j e)
+        grind (
+          arith,
+          or_top_some,
+          near_child parents labels fails alphabet trie each b falls q c j le lt e,
+          back parents labels alphabet trie q c j e,
+        )
 
     value_end : (q c : ℕ) → q ≤ b → q < n → kid q c ≡ None → up fails q ≡ n → value q c ≡ root_value stops n q
     value_end q c le lt e u =
         ap (λ x. or_top x (top stops fails q)) (near_other parents labels fails alphabet trie each b falls q c le lt e
-            ∙ near_top parents labels fails alphabet trie each (up fails q) c u)
+        ∙ near_top parents labels fails alphabet trie each (up fails q) c u)
         ∙ top_end (up fails) stops n n q u
 
     value_next : (q c : ℕ) → q ≤ b → q < n → kid q c ≡ None → up fails q < q → value q c ≡ value (up fails q) c
@@ -67,7 +71,7 @@ module _ (parents labels : List ℕ) (stops : List Bool) (fails : List ℕ) (alp
     hit q c j w le lt h e =
         let to : walk kid 0 (w ++ c ∷ []) ≡ Some j = walk-push kid 0 w c q h ∙ e in
         let state : left_long kid (stop stops) (w ++ c ∷ []) ≡ Some (w ++ c ∷ []) =
-            left_state kid (stop stops) n (w ++ c ∷ []) (ap is_some to) in
+        left_state kid (stop stops) n (w ++ c ∷ []) (ap is_some to) in
         let at : walk kid 0 (w ++ c ∷ []) ≡ Some (value q c) = to ∙ ap Some (sym (value_child q c j le lt e)) in
         subst (λ o. IsRankOf kid n o (value q c)) (sym state) at
 
@@ -101,7 +105,7 @@ module _ (parents labels : List ℕ) (stops : List Bool) (fails : List ℕ) (alp
                 let ih = near_leads k f c u (kid f c) refl (omega (arith, fall, hk)) (omega (arith, fall, le)) low to in
                 let v : value (suc q) c ≡ value f c = value_next (suc q) c le lt e (omega (arith, at, fall)) ∙ ap (λ x. value x c) at in
                 subst (λ x. IsRankOf kid n (left_long kid (stop stops) ((d ∷ ds) ++ c ∷ [])) x) (sym v)
-                    (subst (λ o. IsRankOf kid n o (value f c)) o ih)
+                (subst (λ o. IsRankOf kid n o (value f c)) o ih)
           ]
 
       stopped : (p c m : ℕ) (v : List ℕ) → walk kid 0 v ≡ Some p → kid p c ≡ Some m → stop stops m ≡ true → IsLinkOf kid (stop stops) n m n
@@ -113,8 +117,11 @@ module _ (parents labels : List ℕ) (stops : List Bool) (fails : List ℕ) (alp
       first : (c m r : ℕ) → kid 0 c ≡ Some m → stop stops m ≡ false → r ≡ root_value stops n 0 → IsLinkOf kid (stop stops) n m r
       first c m r edge' no' is =
           link_of_first kid (stop stops) n one no_dead c m r edge'
-          (λ met. elim (cases_Bool (stop stops 0)) [ inl a ↦ is
-              ∙ cond-true (stop stops 0) n 0 a | inr z ↦ absurd (false≢true (sym (or_from (stop stops 0) (stop stops m) z no') ∙ met)) ])
+          (λ met. elim (cases_Bool (stop stops 0)) [
+            | inl a ↦ is
+                ∙ cond-true (stop stops 0) n 0 a
+            | inr z ↦ absurd (false≢true (sym (or_from (stop stops 0) (stop stops m) z no') ∙ met))
+          ])
           (λ unmet. is ∙ cond-false (stop stops 0) n 0 (or_parts (stop stops 0) (stop stops m) unmet).0)
 
       going : (p c m : ℕ) (v : List ℕ) → p ≤ b → p < n → walk kid 0 v ≡ Some p → kid p c ≡ Some m → stop stops m ≡ false
@@ -122,7 +129,7 @@ module _ (parents labels : List ℕ) (stops : List Bool) (fails : List ℕ) (alp
       going zero c m v le lt h edge' no' =
           first c m (or_top (near parents labels fails (up fails 0) c) (top stops fails 0)) edge' no'
           (ap (λ x. or_top x (top stops fails 0)) (near_top parents labels fails alphabet trie each (up fails 0) c refl)
-              ∙ top_end (up fails) stops n n 0 refl)
+          ∙ top_end (up fails) stops n n 0 refl)
       going (suc p) c m [] le lt h edge' no' = absurd (omega (arith, same_Some 0 (suc p) h))
       going (suc p) c m (d ∷ ds) le lt h edge' no' =
           let f = get_or fails (suc p) 0 in
@@ -132,19 +139,19 @@ module _ (parents labels : List ℕ) (stops : List Bool) (fails : List ℕ) (alp
             | inr dead ↦
                 let r : or_top (near parents labels fails (up fails (suc p)) c) (top stops fails (suc p)) ≡ n =
                 ap (λ x. or_top x (top stops fails (suc p)))
-                    (near_top parents labels fails alphabet trie each (up fails (suc p)) c (at ∙ dead))
-                    ∙ top_end (up fails) stops n n (suc p) (at ∙ dead) in
+                (near_top parents labels fails alphabet trie each (up fails (suc p)) c (at ∙ dead))
+                ∙ top_end (up fails) stops n n (suc p) (at ∙ dead) in
                 subst (λ x. IsLinkOf kid (stop stops) n m x) (sym r)
-                    (dead_by_parent kid (stop stops) n one no_dead (suc p) c m d ds h edge'
-                    (subst (λ x. IsLinkOf kid (stop stops) n (suc p) x) dead link))
+                (dead_by_parent kid (stop stops) n one no_dead (suc p) c m d ds h edge'
+                (subst (λ x. IsLinkOf kid (stop stops) n (suc p) x) dead link))
             | inl fall ↦
                 let r : or_top (near parents labels fails (up fails (suc p)) c) (top stops fails (suc p)) ≡ value f c =
                 ap (λ t. or_top (near parents labels fails (up fails (suc p)) c) t)
-                    (top_next (up fails) stops n b (ups_fall fails b falls) (suc p) lt le (omega (arith, at, fall)))
-                    ∙ ap (λ x. value x c) at in
+                (top_next (up fails) stops n b (ups_fall fails b falls) (suc p) lt le (omega (arith, at, fall)))
+                ∙ ap (λ x. value x c) at in
                 subst (λ x. IsLinkOf kid (stop stops) n m x) (sym r)
                 (link_by_walk kid (stop stops) n one no_dead (suc p) c m f (value f c) d ds h edge'
-                    (λ z. omega (arith, z, fall, lt)) no' link
+                (λ z. omega (arith, z, fall, lt)) no' link
                 (λ x hx. near_leads f f c x (kid f c) refl (omega arith) (omega (arith, fall, le)) (omega (arith, fall, lt)) hx))
           ]
 
@@ -158,7 +165,7 @@ module _ (parents labels : List ℕ) (stops : List Bool) (fails : List ℕ) (alp
           let text = text_of parents labels alphabet trie p (omega (arith, early, lt)) in
           let edge' = edge parents labels alphabet trie m pos lt in
           cond_both (stop stops m) n (or_top (near parents labels fails (up fails p) c) (top stops fails p))
-              (λ x. IsLinkOf kid (stop stops) n m x)
+          (λ x. IsLinkOf kid (stop stops) n m x)
           (λ yes'. stopped p c m text.0 text.1 edge' yes')
           (λ no'. going p c m text.0 le (omega (arith, early, lt, each)) text.1 edge' no')
 
@@ -169,7 +176,7 @@ module _ (parents labels : List ℕ) (stops : List Bool) (fails : List ℕ) (alp
     right_to (suc b) q pos le lt =
         let early = trie.order.earlier q pos (omega (arith, lt, each)) in
         subst (λ f. IsLinkOf kid (stop stops) n q f)
-            (sym (checked (get_or parents q 0) (omega (arith, early, lt)) q pos (omega (arith, lt, each)) refl))
+        (sym (checked (get_or parents q 0) (omega (arith, early, lt)) q pos (omega (arith, lt, each)) refl))
         (right_link b (λ r low _ high. falls r low high) (right_to b) q pos (omega (arith, lt, each)) (omega (arith, early, le)))
 
     pub sound : HasLinks parents labels stops fails
@@ -192,7 +199,7 @@ module _ (parents labels : List ℕ) (stops : List Bool) (fails : List ℕ) (alp
     exact b falls m pos lt le =
         let text = text_of parents labels alphabet trie m lt in
         exact_at m (right parents labels stops fails (get_or parents m 0) m (get_or labels m 0)) text.0 pos text.1
-            (right_link b falls (λ q _ _ _. links q) m pos lt le)
+        (right_link b falls (λ q _ _ _. links q) m pos lt le)
 
     abbrev Low : ℕ → ℕ → Type 0
     Low q x = (x ≡ 0) ⊎ ((x < length parents) × (0 < x) × (get_or parents x 0 ≤ q))
@@ -206,7 +213,7 @@ module _ (parents labels : List ℕ) (stops : List Bool) (fails : List ℕ) (alp
         rw is (inr (r.1, r.0, omega (arith, r.2)))
     low_by b falls k zero c None e hk le lt =
         inl (near_other parents labels fails alphabet trie each b falls 0 c le lt e
-            ∙ near_top parents labels fails alphabet trie each (up fails 0) c refl)
+        ∙ near_top parents labels fails alphabet trie each (up fails 0) c refl)
     low_by b falls zero (suc q) c None e hk le lt = absurd (omega (arith, hk))
     low_by b falls (suc k) (suc q) c None e hk le lt =
         let is = near_other parents labels fails alphabet trie each b falls (suc q) c le lt e in
@@ -214,9 +221,9 @@ module _ (parents labels : List ℕ) (stops : List Bool) (fails : List ℕ) (alp
           | inr dead ↦ inl (is ∙ near_top parents labels fails alphabet trie each (up fails (suc q)) c dead)
           | inl fall ↦ elim (low_by b falls k (up fails (suc q)) c (kid (up fails (suc q)) c) refl (omega (arith, fall, hk))
               (omega (arith, fall, le)) (omega (arith, fall, lt))) [
-            | inl z ↦ inl (is ∙ z)
-            | inr r ↦ inr (omega (arith, is, r.0), omega (arith, is, r.1), omega (arith, ap (λ i. get_or parents i 0) is, r.2, fall))
-          ]
+                | inl z ↦ inl (is ∙ z)
+                | inr r ↦ inr (omega (arith, is, r.0), omega (arith, is, r.1), omega (arith, ap (λ i. get_or parents i 0) is, r.2, fall))
+              ]
         ]
 
     none_falls : (m p x : ℕ) → 0 < m → x ≡ 0 → (or_top x (top stops fails p) < m) ⊎ (or_top x (top stops fails p) ≡ length fails)
@@ -235,9 +242,9 @@ module _ (parents labels : List ℕ) (stops : List Bool) (fails : List ℕ) (alp
               (near_top parents labels fails alphabet trie each (up fails p) c dead)
           | inl fall ↦ elim (low_by b falls (up fails p) (up fails p) c (kid (up fails p) c) refl (omega arith) (omega (arith, fall, le))
               (omega (arith, fall, hp))) [
-            | inl z ↦ none_falls m p (near parents labels fails (up fails p) c) pos z
-            | inr r ↦ some_falls m p (near parents labels fails (up fails p) c) pos lt e r.0 r.1 (omega (arith, r.2, fall))
-          ]
+                | inl z ↦ none_falls m p (near parents labels fails (up fails p) c) pos z
+                | inr r ↦ some_falls m p (near parents labels fails (up fails p) c) pos lt e r.0 r.1 (omega (arith, r.2, fall))
+              ]
         ]
 
     right_falls_at : (b m : ℕ) → Falls b → 0 < m → m < length parents → get_or parents m 0 ≤ b → (get_or fails m 0 < m)
@@ -247,7 +254,7 @@ module _ (parents labels : List ℕ) (stops : List Bool) (fails : List ℕ) (alp
         let c = get_or labels m 0 in
         subst (λ f. (f < m) ⊎ (f ≡ length fails)) (sym (exact b falls m pos lt le)) (
         cond_both (stop stops m) n (or_top (near parents labels fails (up fails p) c) (top stops fails p))
-            (λ f. (f < m) ⊎ (f ≡ length fails))
+        (λ f. (f < m) ⊎ (f ≡ length fails))
         (λ _. inr refl) (λ _. fall_at b m p c falls pos lt refl le (omega (arith, trie.order.earlier m pos lt, lt, each))))
 
     falls_to : (b : ℕ) → Falls b

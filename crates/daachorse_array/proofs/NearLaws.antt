@@ -51,7 +51,7 @@ module _ (parents labels fails : List ℕ) (alphabet : ℕ) (trie : IsTrieOfRank
   pub near_top : (p c : ℕ) → p ≡ length fails → near parents labels fails p c ≡ 0
   near_top p c e =
       ap (λ x. near parents labels fails x c) e ∙ zero_at (child parents labels) (up fails) (length fails) none_top
-          (up_past fails (length fails) (omega arith)) (suc (length fails)) c
+      (up_past fails (length fails) (omega arith)) (suc (length fails)) c
 
   -- what is near p is a child of p, or near above p
   pub near_step : (b : ℕ) → ((q : ℕ) → 0 < q → q ≤ b → q < length fails → (get_or fails q 0 < q) ⊎ (get_or fails q 0 ≡ length fails))
@@ -59,7 +59,7 @@ module _ (parents labels fails : List ℕ) (alphabet : ℕ) (trie : IsTrieOfRank
       near parents labels fails q c ≡ pick (child parents labels q c) (near parents labels fails (up fails q) c)
   near_step b falls q c le lt =
       near_law (child parents labels) (up fails) (length fails) none_top (up_past fails (length fails) (omega arith)) b
-          (ups_fall fails b falls) q c le lt
+      (ups_fall fails b falls) q c le lt
 
   pub near_child : (b : ℕ) → ((q : ℕ) → 0 < q → q ≤ b → q < length fails → (get_or fails q 0 < q) ⊎ (get_or fails q 0 ≡ length fails))
       → (q c j : ℕ) → q ≤ b → q < length fails → child parents labels q c ≡ Some j →

@@ -23,8 +23,11 @@ module _ (parents labels : List ℕ) (stops : List Bool) (fails : List ℕ) (alp
 
   -- a child of p has its rank before the ranks of the state behind p
   in_range : (m : ℕ) → get_or starts (p + 1) 0 ≤ m → (j : ℕ) → j < length parents → get_or parents j 0 ≡ p → j < m
-  in_range m done j lj ej = elim (cases_lt j m) [ inl h ↦ h | inr h ↦
-      absurd (not_after parents starts are p within j (omega (arith, done, h)) lj ej) ]
+  in_range m done j lj ej = elim (cases_lt j m) [
+    | inl h ↦ h
+    | inr h ↦
+        absurd (not_after parents starts are p within j (omega (arith, done, h)) lj ej)
+  ]
 
   no_child : (c : ℕ) → child parents labels p c ≡ None → (j : ℕ) → 0 < j → j < length parents → get_or parents j 0 ≡ p
       → get_or labels j 0 ≡ c → ⊥
@@ -37,7 +40,7 @@ module _ (parents labels : List ℕ) (stops : List Bool) (fails : List ℕ) (alp
       get_or array (get_or labels m 0) 0 ≡ near parents labels fails (up fails p) (get_or labels m 0)
   entering_reads array saved old m wide is at =
       is.other (get_or labels m 0) (omega (arith, trie.inside m at.0 at.1, wide))
-          (λ j pos lt low e g. omega (arith, one_label j m pos lt at.0 at.1 e at.2 g, low))
+      (λ j pos lt low e g. omega (arith, one_label j m pos lt at.0 at.1 e at.2 g, low))
 
   to_next : (j m : ℕ) → j < m + 1 → (P : Type 0) → (j < m → P) → (j ≡ m → P) → P
   to_next j m lt P a b = elim (cases_eq j m) [ inl h ↦ b h | inr h ↦ a (omega (arith, h, lt)) ]
@@ -45,7 +48,7 @@ module _ (parents labels : List ℕ) (stops : List Bool) (fails : List ℕ) (alp
   pub entering_next : (array saved old : List ℕ) (m v : ℕ) → length array ≡ alphabet → length saved ≡ length parents
       → IsEntering parents labels stops fails array saved old p m → (0 < m) × (m < length parents) × (get_or parents m 0 ≡ p) →
       v ≡ near parents labels fails (up fails p) (get_or labels m 0)
-          → get_or fails m 0 ≡ right parents labels stops fails p m (get_or labels m 0) →
+      → get_or fails m 0 ≡ right parents labels stops fails p m (get_or labels m 0) →
       IsEntering parents labels stops fails (set array (get_or labels m 0) m) (set saved m v) old p (m + 1)
   entering_next array saved old m v wide size is at found is_right =
       let l = get_or labels m 0 in
@@ -55,16 +58,16 @@ module _ (parents labels : List ℕ) (stops : List Bool) (fails : List ℕ) (alp
             (λ h. subst (λ x. get_or fails x 0 ≡ right parents labels stops fails p x (get_or labels x 0)) (sym h) is_right);
         mine = λ j pos high low e. to_next j m low _
             (λ h. get_or-set_other array l (get_or labels j 0) m 0 (λ g. omega (arith, one_label j m pos high at.0 at.1 e at.2 g, h))
-                ∙ is.mine j pos high h e)
+            ∙ is.mine j pos high h e)
             (λ h. subst (λ x. get_or (set array l m) (get_or labels x 0) 0 ≡ x) (sym h) (get_or-set_same array l m 0 lt));
         other = λ c high no'.
             let ne : c ≢ l = λ g. no' m at.0 at.1 (omega arith) at.2 (sym g) in
             get_or-set_other array l c m 0 ne ∙ is.other c (omega (arith, high, length-set array l m))
-                (λ j pos hj low e g. no' j pos hj (omega (arith, low)) e g);
+            (λ j pos hj low e g. no' j pos hj (omega (arith, low)) e g);
         kept = λ j pos high low e. to_next j m low _
             (λ h. get_or-set_other saved m j v 0 (λ g. omega (arith, g, h)) ∙ is.kept j pos high h e)
             (λ h. subst (λ x. get_or (set saved m v) x 0 ≡ near parents labels fails (up fails p) (get_or labels x 0)) (sym h)
-                (get_or-set_same saved m v 0 (omega (arith, at.1, size)) ∙ found));
+            (get_or-set_same saved m v 0 (omega (arith, at.1, size)) ∙ found));
         frame = λ j ne. get_or-set_other saved m j v 0 (λ g. ne (ap (λ x. get_or parents x 0) g ∙ at.2)) ∙ is.frame j ne;
       }
 
@@ -73,14 +76,14 @@ module _ (parents labels : List ℕ) (stops : List Bool) (fails : List ℕ) (alp
       → AreNear parents labels fails array p
   entered array saved old m done is c lt =
       (elim (child parents labels p c) as (λ o. child parents labels p c ≡ o → get_or array c 0 ≡ near parents labels fails p c) [
-    | Some j ↦ λ e.
-        let r = back parents labels alphabet trie p c j e in
-        ap (λ x. get_or array x 0) (sym r.3) ∙ is.mine j r.0 r.1 (in_range m done j r.1 r.2) r.2
-        ∙ sym (near_child parents labels fails alphabet trie each p fall_to p c j (omega arith) (omega (arith, within, each)) e)
-    | None ↦ λ e.
-        is.other c lt (λ j pos hj low ej g. no_child c e j pos hj ej g)
-        ∙ sym (near_other parents labels fails alphabet trie each p fall_to p c (omega arith) (omega (arith, within, each)) e)
-  ]) refl
+        | Some j ↦ λ e.
+            let r = back parents labels alphabet trie p c j e in
+            ap (λ x. get_or array x 0) (sym r.3) ∙ is.mine j r.0 r.1 (in_range m done j r.1 r.2) r.2
+            ∙ sym (near_child parents labels fails alphabet trie each p fall_to p c j (omega arith) (omega (arith, within, each)) e)
+        | None ↦ λ e.
+            is.other c lt (λ j pos hj low ej g. no_child c e j pos hj ej g)
+            ∙ sym (near_other parents labels fails alphabet trie each p fall_to p c (omega arith) (omega (arith, within, each)) e)
+      ]) refl
 
   -- ---- going back
   -- p is left
@@ -88,10 +91,10 @@ module _ (parents labels : List ℕ) (stops : List Bool) (fails : List ℕ) (alp
       → AreNear parents labels fails array (up fails p)
   left array m done is c lt = (elim (child parents labels p c) as (λ o. child parents labels p c ≡ o
       → get_or array c 0 ≡ near parents labels fails (up fails p) c) [
-    | Some j ↦ λ e.
-        let r = back parents labels alphabet trie p c j e in
-        subst (λ x. get_or array x 0 ≡ near parents labels fails (up fails p) x) r.3 (is.back j r.0 r.1 (in_range m done j r.1 r.2) r.2)
-    | None ↦ λ e.
-        is.other c lt (λ j pos hj low ej g. no_child c e j pos hj ej g)
-        ∙ near_other parents labels fails alphabet trie each p fall_to p c (omega arith) (omega (arith, within, each)) e
-  ]) refl
+        | Some j ↦ λ e.
+            let r = back parents labels alphabet trie p c j e in
+            subst (λ x. get_or array x 0 ≡ near parents labels fails (up fails p) x) r.3 (is.back j r.0 r.1 (in_range m done j r.1 r.2) r.2)
+        | None ↦ λ e.
+            is.other c lt (λ j pos hj low ej g. no_child c e j pos hj ej g)
+            ∙ near_other parents labels fails alphabet trie each p fall_to p c (omega arith) (omega (arith, within, each)) e
+      ]) refl

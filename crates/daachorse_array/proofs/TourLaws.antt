@@ -49,7 +49,7 @@ module _ (next put : List ℕ) (n : ℕ) where
       IsThreaded next n a (x ∷ xs) → x ≡ f → IsThreaded put n a (x ∷ m ∷ xs)
   after_it f m a x xs at_f at_m same apart l e =
       let tail : IsThreaded put n (get_or next x 0) xs = agree (get_or next x 0) xs
-          (λ y g. same y (inr g) (λ k. apart.0 (subst (λ z. In z xs) (k ∙ sym e) g))) l.1 in
+      (λ y g. same y (inr g) (λ k. apart.0 (subst (λ z. In z xs) (k ∙ sym e) g))) l.1 in
       (l.0, (ap (λ z. get_or put z 0) e ∙ at_f, subst (λ b. IsThreaded put n b xs) (ap (λ z. get_or next z 0) e ∙ sym at_m) tail))
 
   linked_insert : (f m a : ℕ) (xs : List ℕ) → get_or put f 0 ≡ m → get_or put m 0 ≡ get_or next f 0
@@ -59,9 +59,11 @@ module _ (next put : List ℕ) (n : ℕ) where
   linked_insert f m a (x ∷ xs) at_f at_m same h apart l =
       by_test x f (x ∷ m ∷ xs) (x ∷ insert f m xs) (λ ys. IsThreaded put n a ys) (λ e. after_it f m a x xs at_f at_m same apart l e)
       (λ ne. (
-      let later : In f xs = elim h [ inl e ↦ absurd (ne (sym e)) | inr g ↦ g ] in
-      (l.0, linked_insert f m (get_or put x 0) xs at_f at_m (λ y k. same y (inr k)) later apart.1
-          (subst (λ b. IsThreaded next n b xs) (sym (same x (inl refl) ne)) l.1))))
+      let later : In f xs = elim h [ inl e ↦ absurd (ne (sym e)) | inr g ↦ g ] in (
+        l.0,
+        linked_insert f m (get_or put x 0) xs at_f at_m (λ y k. same y (inr k)) later apart.1
+            (subst (λ b. IsThreaded next n b xs) (sym (same x (inl refl) ne)) l.1),
+      )))
 
 module _ (up : ℕ → ℕ) (n : ℕ) (next : List ℕ) (m : ℕ) (tour : IsTour up n next m) (lt : m < n) where
   abbrev put : List ℕ
@@ -90,8 +92,11 @@ module _ (up : ℕ → ℕ) (n : ℕ) (next : List ℕ) (m : ℕ) (tour : IsTour
     steps_m = elim (tour.steps (up m) le) [ inl z ↦ inl (read_m ∙ z) | inr s ↦ inr (suc s.0, s.1 ∙ ap up (sym read_m)) ]
 
     steps_other : (a : ℕ) → a ≤ n → a ≢ up m → a ≢ m → Steps a
-    steps_other a la x y = elim (tour.steps a la) [ inl z ↦ inl (read_other a x y ∙ z) | inr s ↦
-        inr (s.0, s.1 ∙ ap up (sym (read_other a x y))) ]
+    steps_other a la x y = elim (tour.steps a la) [
+      | inl z ↦ inl (read_other a x y ∙ z)
+      | inr s ↦
+          inr (s.0, s.1 ∙ ap up (sym (read_other a x y)))
+    ]
 
     steps_put : (a : ℕ) → a ≤ n → Steps a
     steps_put a la = elim (cases_eq a (up m)) [
@@ -116,8 +121,8 @@ module _ (up : ℕ → ℕ) (n : ℕ) (next : List ℕ) (m : ℕ) (tour : IsTour
           ap (λ a. get_or put a 0) (sym e) ∙ read_up le ne,
           subst (λ b. IsThreaded put n b tour.list) (ap (λ a. get_or next a 0) (sym e) ∙ sym (read_m le ne))
               (agree next put n (get_or next n 0) tour.list
-                  (λ x h. read_other le ne x (λ g. omega (arith, tour.below x h, g, e, lt)) (λ g. omega (arith, tour.below x h, g)))
-                  tour.linked),
+              (λ x h. read_other le ne x (λ g. omega (arith, tour.below x h, g, e, lt)) (λ g. omega (arith, tour.below x h, g)))
+              tour.linked),
         );
         count = ap suc tour.count;
         apart = (fresh le ne, tour.apart);
@@ -136,9 +141,9 @@ module _ (up : ℕ → ℕ) (n : ℕ) (next : List ℕ) (m : ℕ) (tour : IsTour
         list = insert (up m) m tour.list;
         linked =
             linked_insert next put n (up m) m (get_or put n 0) tour.list (read_up le ne) (read_m le ne)
-                (λ x h g. read_other le ne x g (λ k. omega (arith, tour.below x h, k))) has tour.apart
+            (λ x h g. read_other le ne x g (λ k. omega (arith, tour.below x h, k))) has tour.apart
             (subst (λ b. IsThreaded next n b tour.list)
-                (sym (read_other le ne n (λ g. omega (arith, g, low, lt)) (λ g. omega (arith, g, lt)))) tour.linked);
+            (sym (read_other le ne n (λ g. omega (arith, g, low, lt)) (λ g. omega (arith, g, lt)))) tour.linked);
         count = length_insert (up m) m tour.list has ∙ ap suc tour.count;
         apart = apart_insert (up m) m tour.list tour.apart (fresh le ne);
         below = λ x h. grind (arith, in_parts (up m) m x tour.list h, tour.below x);

@@ -29,13 +29,21 @@ module _ (fails : List ℕ) where
 
   -- a rank with another above it is not the top
   pub not_top : (here to : ℕ) → here ≤ length fails → IsAbove (up fails) to here → here ≢ to → here < length fails
-  not_top here to le s ne = omega (arith, le, λ (e : here ≡ length fails).
-      ne (e ∙ sym (above_end s.0) ∙ ap (λ x. above (up fails) s.0 x) (sym e) ∙ s.1))
+  not_top here to le s ne = omega (
+    arith,
+    le,
+    λ (e : here ≡ length fails).
+        ne (e ∙ sym (above_end s.0) ∙ ap (λ x. above (up fails) s.0 x) (sym e) ∙ s.1),
+  )
 
   -- a rank with a rank above it is not the top
   not_top_of : (here to : ℕ) → here ≤ length fails → IsAbove (up fails) to here → to ≢ length fails → here < length fails
-  not_top_of here to le s ne = omega (arith, le, λ (e : here ≡ length fails).
-      ne (sym s.1 ∙ ap (λ x. above (up fails) s.0 x) e ∙ above_end s.0))
+  not_top_of here to le s ne = omega (
+    arith,
+    le,
+    λ (e : here ≡ length fails).
+        ne (sym s.1 ∙ ap (λ x. above (up fails) s.0 x) e ∙ above_end s.0),
+  )
 
 module _ {parents labels : List ℕ} {stops : List Bool} {fails : List ℕ} {alphabet : ℕ} (trie : IsTrieOfRanks parents labels alphabet)
     (each : length fails ≡ length parents) where
@@ -70,7 +78,7 @@ module _ {parents labels : List ℕ} {stops : List Bool} {fails : List ℕ} {alp
     path_to : (q : ℕ) → IsAbove (up fails) q here → (j : ℕ) → IsSaved parents labels fails saved (above (up fails) j q)
     path_to q (i, e) j =
         subst (λ x. IsSaved parents labels fails saved x) (sym (above_above (up fails) i j here) ∙ ap (λ x. above (up fails) j x) e)
-            (touring.path (i + j))
+        (touring.path (i + j))
 
     path_next : (saved' : List ℕ) → ((q : ℕ) → IsSaved parents labels fails saved q → IsSaved parents labels fails saved' q)
         → k < length fails → IsSaved parents labels fails saved' p → (j : ℕ) → IsSaved parents labels fails saved' (above (up fails) j p)
@@ -92,18 +100,21 @@ module _ {parents labels : List ℕ} {stops : List Bool} {fails : List ℕ} {alp
     same_other falls lt ne =
         let low = next_in lt in
         let at = next_above lt in
-        let fall : up fails p < p = elim (ups_fall fails p (λ r pos _ high. falls r pos high) p (omega arith) low) [ inl z ↦ z | inr z ↦
-            absurd (ne z) ] in
+        let fall : up fails p < p = elim (ups_fall fails p (λ r pos _ high. falls r pos high) p (omega arith) low) [
+          | inl z ↦ z
+          | inr z ↦
+              absurd (ne z)
+        ] in
         let in' : here < length fails = not_top_of fails here (up fails p) touring.low at ne in
         touring.other in' ∙ top_above falls at.0 here (up fails p) in' at.1 (omega (arith, fall, low))
-            ∙ sym (top_next (up fails) stops (length fails) p (ups_fall fails p (λ r pos _ high. falls r pos high)) p low
-            (omega arith) fall)
+        ∙ sym (top_next (up fails) stops (length fails) p (ups_fall fails p (λ r pos _ high. falls r pos high)) p low
+        (omega arith) fall)
 
     -- the next rank is entered
     pub touring_step : IsTour (up fails) (length fails) next (length fails) → (array' saved' : List ℕ) (t' : ℕ) → k < length fails
         → IsChecked parents labels stops fails p → AreNear parents labels fails array' p → IsSaved parents labels fails saved' p →
         ((q : ℕ) → IsSaved parents labels fails saved q → IsSaved parents labels fails saved' q) → t' ≡ top stops fails p
-            → IsTouring parents labels stops fails next array' saved' (k + 1) p (get_or next p 0) t'
+        → IsTouring parents labels stops fails next array' saved' (k + 1) p (get_or next p 0) t'
     touring_step tour array' saved' t' lt done near' mine kept other' = at touring.rest refl
       where
         at : (xs : List ℕ) → touring.rest ≡ xs → IsTouring parents labels stops fails next array' saved' (k + 1) p (get_or next p 0) t'
@@ -116,8 +127,11 @@ module _ {parents labels : List ℕ} {stops : List Bool} {fails : List ℕ} {alp
               count = omega (arith, touring.count, ap length is);
               below = λ y h. touring.below y (rw is (inr h));
               each = λ y h. elim (rw is at (touring.each y h)) [
-                | inl a ↦ elim a [ inl g ↦ inr (subst (λ z. IsChecked parents labels stops fails z) (linked.0 ∙ sym g) done) | inr b ↦
-                    inl b ]
+                | inl a ↦ elim a [
+                  | inl g ↦ inr (subst (λ z. IsChecked parents labels stops fails z) (linked.0 ∙ sym g) done)
+                  | inr b ↦
+                      inl b
+                ]
                 | inr b ↦ inr b
               ];
               near = near';

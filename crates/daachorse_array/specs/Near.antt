@@ -59,10 +59,10 @@ right parents labels stops fails p m c = cond (stop stops m) (length fails)
 abbrev pub IsChecked : List ℕ → List ℕ → List Bool → List ℕ → ℕ → Type 0
 IsChecked parents labels stops fails p =
     (m : ℕ) → 0 < m → m < length parents → slice_index parents m ≡ p
-        → slice_index fails m ≡ right parents labels stops fails p m (slice_index labels m)
+    → slice_index fails m ≡ right parents labels stops fails p m (slice_index labels m)
 
 -- of p's children what is near above p is kept
 abbrev pub IsSaved : List ℕ → List ℕ → List ℕ → List ℕ → ℕ → Type 0
 IsSaved parents labels fails saved p =
     (m : ℕ) → 0 < m → m < length parents → slice_index parents m ≡ p
-        → slice_index saved m ≡ near parents labels fails (up fails p) (slice_index labels m)
+    → slice_index saved m ≡ near parents labels fails (up fails p) (slice_index labels m)

@@ -24,7 +24,7 @@ module _ {V : Type 0} (width : ℕ → ℕ) (a : Machine V) {label : ℕ → ℕ
     (are : AreRanks a.child label n order parents labels marks)
     (unit : (s c t : ℕ) → (m : ℕ) × (m < length order) × (get_or order m 0 ≡ s) → a.child s c ≡ Some t → c ≡ label t)
     (sizes : List ℕ) (sized : AreSizes a.child width order sizes) (size_each : length sizes ≡ length order) {leaves : List Bool}
-        (leafy : AreLeavesOf parents leaves (length parents)) where
+    (leafy : AreLeavesOf parents leaves (length parents)) where
   abbrev at : ℕ → ℕ
   at m = get_or order m 0
 
@@ -34,7 +34,7 @@ module _ {V : Type 0} (width : ℕ → ℕ) (a : Machine V) {label : ℕ → ℕ
   leaf_none : (m c : ℕ) → m < length order → leaf m ≡ true → a.child (at m) c ≡ None
   leaf_none m c lt h =
       no_some (a.child (at m) c) (λ j e. (let entry = are.closed m lt c j e in
-          leafy.none m entry.0 h entry.1 (omega (arith, entry.2, are.ranks.one_each)) entry.4))
+      leafy.none m entry.0 h entry.1 (omega (arith, entry.2, are.ranks.one_each)) entry.4))
 
   none_leaf : (m : ℕ) → m < length order → ((c : ℕ) → a.child (at m) c ≡ None) → leaf m ≡ true
   none_leaf m lt none = elim (cases_Bool (leaf m)) [
@@ -42,7 +42,7 @@ module _ {V : Type 0} (width : ℕ → ℕ) (a : Machine V) {label : ℕ → ℕ
     | inr no' ↦
         let q = leafy.some m (omega (arith, lt, are.ranks.one_each, leafy.each)) no' in
         let e : a.child (at m) (label (at q.0)) ≡ Some (at q.0) = ap (λ p. a.child (at p) (label (at q.0))) (sym q.3)
-            ∙ are.ranks.edge q.0 q.1 (omega (arith, q.2, are.ranks.one_each)) in
+        ∙ are.ranks.edge q.0 q.1 (omega (arith, q.2, are.ranks.one_each)) in
         absurd (none-some (at q.0) (sym (none (label (at q.0))) ∙ e))
   ]
 
@@ -65,7 +65,7 @@ module _ {V : Type 0} (width : ℕ → ℕ) (a : Machine V) {label : ℕ → ℕ
           let here : Leads a.child (u ∷ w) (at f.0) = e ∙ ap Some (sym f.2) in
           let goes = (chained f.0 (behind u i f.0 w tree e f.2) f.1).goes_on in
           let at_m : (own width a (u ∷ w) (at f.0)).1 ≡ cond (a.fail (at f.0) == 1) 0 (a.output (a.fail (at f.0))) =
-              sym (ap (λ (r : List V × ℕ). r.1) (own_at (u ∷ w) f.0 f.1 here)) ∙ goes in
+          sym (ap (λ (r : List V × ℕ). r.1) (own_at (u ∷ w) f.0 f.1 here)) ∙ goes in
           subst (λ x. (own width a (u ∷ w) x).1 ≡ cond (a.fail x == 1) 0 (a.output (a.fail x))) f.2 at_m
 
       pub right_leaves : (u i : ℕ) (w : List ℕ) → Leads a.child (u ∷ w) i → ((c : ℕ) → a.child i c ≡ None) → content width a (u ∷ w) ≢ []
@@ -76,7 +76,7 @@ module _ {V : Type 0} (width : ℕ → ℕ) (a : Machine V) {label : ℕ → ℕ
           let has = (chained f.0 (behind u i f.0 w tree e f.2) f.1).has_own is_leaf in
           let values : has_values (content width a (u ∷ w)) ≡ true =
           ap (λ o. has_values (values_at width a (u ∷ w) o)) here
-              ∙ (sym (ap (λ (r : List V × ℕ). has_values r.0) (own_at (u ∷ w) f.0 f.1 here)) ∙ has) in
+          ∙ (sym (ap (λ (r : List V × ℕ). has_values r.0) (own_at (u ∷ w) f.0 f.1 here)) ∙ has) in
           values_some (content width a (u ∷ w)) values
 
     -- the other way round
@@ -94,7 +94,7 @@ module _ {V : Type 0} (width : ℕ → ℕ) (a : Machine V) {label : ℕ → ℕ
           goes_on = ap (λ (r : List V × ℕ). r.1) (own_at (u ∷ w) m lt e) ∙ chains u (at m) w e;
           has_own = λ h.
               let values : has_values (content width a (u ∷ w)) ≡ true =
-                  some_values (content width a (u ∷ w)) (owns u (at m) w e (λ c. leaf_none m c lt h)) in
+              some_values (content width a (u ∷ w)) (owns u (at m) w e (λ c. leaf_none m c lt h)) in
               ap (λ (r : List V × ℕ). has_values r.0) (own_at (u ∷ w) m lt e)
-                  ∙ (sym (ap (λ o. has_values (values_at width a (u ∷ w) o)) e) ∙ values);
+              ∙ (sym (ap (λ o. has_values (values_at width a (u ∷ w) o)) e) ∙ values);
         }

@@ -60,14 +60,15 @@ module _ {V : Type 0} (width : ℕ → ℕ) (a : Machine V) {group : ℕ → Opt
       are_stops m w lt e =
           stops_at m (omega (arith, lt, stops_each))
           ∙ ap (λ k. cond leftmost (has_values (own_from a.outputs (a.output (get_or order m 0)) k (a.output (get_or order m 0))).0) false)
-              (sized m w (omega (arith, lt, each)) e)
+          (sized m w (omega (arith, lt, each)) e)
 
       pub links_are_right : HasOnePath a.child → HasLinks parents labels stops fails ↔ HasRightLinks width a leftmost
       links_are_right tree =
           let at : (m : ℕ) → 0 < m → m < length order → IsLinkRank order (a.fail (get_or order m 0)) (get_or fails m 0) = λ m pos lt.
-              linked m pos (omega (arith, lt, fails_each)) in
-          (right_links width a are inside (one_unit tell) stops fails fails_each at leftmost are_stops,
-              links_right width a are inside (one_unit tell) stops fails fails_each at leftmost are_stops tree)
+          linked m pos (omega (arith, lt, fails_each)) in (
+            right_links width a are inside (one_unit tell) stops fails fails_each at leftmost are_stops,
+            links_right width a are inside (one_unit tell) stops fails fails_each at leftmost are_stops tree,
+          )
 
   -- ---- the count
   pub counted_ranks : HasOnePath a.child → IsCounted a (length order)

@@ -81,14 +81,18 @@ module _ {child : ℕ → ℕ → Option ℕ} {group : ℕ → Option ℕ} {edge
                 here = omega (arith, walk.here, length_push order x);
                 recent = parents_push walk.ranks walk.here edge_at same low none high walk.recent;
                 latest = λ m pos less e. elim (cases_lt m (length order)) [
-                  | inl a ↦ omega (arith, old_at order x m a,
-                      walk.latest m pos a (sym (old_at parents k m (omega (arith, a, walk.ranks.one_each))) ∙ e), last.less)
+                  | inl a ↦ omega (
+                    arith,
+                    old_at order x m a,
+                    walk.latest m pos a (sym (old_at parents k m (omega (arith, a, walk.ranks.one_each))) ∙ e),
+                    last.less,
+                  )
                   | inr b ↦ omega (arith, get_or_push order x 0 m (omega (arith, b, less, length_push order x)))
                 ];
                 seen = λ c t e less. elim (cases_eq t x) [
                   | inl one ↦
                       subst (λ i. HasEntry (order ++ x ∷ []) (parents ++ k ∷ []) k i) (sym one)
-                          (entry_new walk.ranks walk.here edge_at same low none high walk.recent)
+                      (entry_new walk.ranks walk.here edge_at same low none high walk.recent)
                   | inr other ↦
                       let e' : child (get_or order k 0) c ≡ Some t = ap (λ s. child s c) (sym here') ∙ e in
                       elim (cases_lt t left.bound) [
@@ -143,5 +147,5 @@ module _ {child : ℕ → ℕ → Option ℕ} {group : ℕ → Option ℕ} {edge
         → AreRanks child (label edge) n order parents labels marks × HasOnePath child
     all_ranked inside walk =
         let are : AreRanks child (label edge) n order parents labels marks =
-            record { ranks = walk.ranks; closed = walk.closed; marks_each = walk.marks_each } in
+        record { ranks = walk.ranks; closed = walk.closed; marks_each = walk.marks_each } in
         (are, one_path_from are inside (one_unit tell))

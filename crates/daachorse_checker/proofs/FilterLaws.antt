@@ -83,8 +83,11 @@ module _ {child : ℕ → ℕ → Option ℕ} {bytes : ℕ → List ℕ} {f : Fi
         each = All-push (IsChildOf child bytes f e) pushing.kids (x, s) pushing.each
             (label edge x, member_child tell e.0 g lt own x pushing_in last.passes, read);
         seen = λ c t to le. elim (cases_eq t x) [
-          | inl same ↦ (s, subst (λ (j : ℕ). Contains (pushing.kids ++ (x, s) ∷ []) (j, s)) (sym same)
-              (Contains-append_right pushing.kids ((x, s) ∷ []) (x, s) (0, omega arith, refl)))
+          | inl same ↦ (
+            s,
+            subst (λ (j : ℕ). Contains (pushing.kids ++ (x, s) ∷ []) (j, s)) (sym same)
+                (Contains-append_right pushing.kids ((x, s) ∷ []) (x, s) (0, omega arith, refl)),
+          )
           | inr other ↦ elim (cases_lt t pushing.bound) [
             | inl less ↦ absurd (last.none t (omega (arith, le, other)) less (child_member tell e.0 g lt own c t to))
             | inr more ↦ in_left pushing.kids ((x, s) ∷ []) t (pushing.seen c t to more)
@@ -145,13 +148,13 @@ module _ {child : ℕ → ℕ → Option ℕ} {bytes : ℕ → List ℕ} {f : Fi
               (All-append P next pushed.kids so_far.each (λ k default less. (e, in', pushed.each k default less)));
           all = λ k default less. subst (λ (xs : List Entry). IsDone child f is_key xs (get_or level k default)) (sym pushed.is)
               (elim (cases_eq k n) [
-            | inl same ↦ subst (λ (x : Entry). IsDone child f is_key (next ++ pushed.kids) x)
-                (here default ∙ ap (λ m. get_or level m default) (sym same)) (inr (no', λ c j to. behind (pushed.all c j to)))
-            | inr other ↦ elim (so_far.all k default (omega (arith, less, other))) [
-              | inl h ↦ inl h
-              | inr h ↦ inr (h.0, λ c j to. in_left next pushed.kids j (h.1 c j to))
-            ]
-          ]);
+                | inl same ↦ subst (λ (x : Entry). IsDone child f is_key (next ++ pushed.kids) x)
+                    (here default ∙ ap (λ m. get_or level m default) (sym same)) (inr (no', λ c j to. behind (pushed.all c j to)))
+                | inr other ↦ elim (so_far.all k default (omega (arith, less, other))) [
+                  | inl h ↦ inl h
+                  | inr h ↦ inr (h.0, λ c j to. in_left next pushed.kids j (h.1 c j to))
+                ]
+              ]);
         }
       where
         behind : {j : ℕ} → IsInLevel pushed.kids j → IsInLevel (next ++ pushed.kids) j
@@ -163,9 +166,12 @@ module _ {child : ℕ → ℕ → Option ℕ} {bytes : ℕ → List ℕ} {f : Fi
     level_start level s e read = record {
       begun = subst (λ (xs : List Entry). All (IsBeginning child bytes f 0) xs) (sym e)
           (All-push (IsBeginning child bytes f 0) [] (0, s) (All-nil (IsBeginning child bytes f 0))
-              (record { text = []; long = refl; leads = refl; read = read }));
-      all = λ w i none leads. inr (s, subst (λ (xs : List Entry). Contains xs (i, s)) (sym e)
-          (0, omega arith, ap (λ j. (j, s)) (root w i none leads)));
+          (record { text = []; long = refl; leads = refl; read = read }));
+      all = λ w i none leads. inr (
+        s,
+        subst (λ (xs : List Entry). Contains xs (i, s)) (sym e)
+            (0, omega arith, ap (λ j. (j, s)) (root w i none leads)),
+      );
       short = λ w i lt. absurd (omega (arith, lt));
     }
       where

@@ -16,7 +16,7 @@ module _ {child : ℕ → ℕ → Option ℕ} (edge : ℕ → Option (ℕ × ℕ
       let parent = found are.ranks unit are.closed w i leads in
       let rank = are.closed parent.0 parent.1 c j (ap (λ s. child s c) parent.2 ∙ to) in
       let same : get_or labels rank.0 0 ≡ c = are.ranks.labelled rank.0 rank.1 rank.2 ∙ ap (label edge) rank.3
-          ∙ sym (unit i c j parent to) in
+      ∙ sym (unit i c j parent to) in
       ap folded_unit (sym same) ∙ all rank.0 rank.1 (omega (arith, rank.2, are.ranks.label_each)) ∙ same
 
   pub ranks_folded : HasFoldedUnits child → AreFolded labels
@@ -26,4 +26,4 @@ module _ {child : ℕ → ℕ → Option ℕ} (edge : ℕ → Option (ℕ × ℕ
       let text = text_at are.ranks (get_or parents m 0) up in
       let is = are.ranks.labelled m pos lt in
       ap folded_unit is ∙ all text.0 (get_or order (get_or parents m 0) 0) (label edge (get_or order m 0)) (get_or order m 0) text.1
-          (are.ranks.edge m pos lt) ∙ sym is
+      (are.ranks.edge m pos lt) ∙ sym is

@@ -43,7 +43,7 @@ module _ {child : ℕ → ℕ → Option ℕ} {label : ℕ → ℕ} {n units : �
         let a = edge_to l pos (omega (arith, less, lt')) in
         let b = edge_to m (omega (arith, less)) lt' in
         let one : at l ≡ at m = same_Some (at l) (at m) (sym a
-            ∙ (ap (λ p. child (at p) (get_or labels l 0)) same_parent ∙ ap (child (at (get_or parents m 0))) same_label) ∙ b) in
+        ∙ (ap (λ p. child (at p) (get_or labels l 0)) same_parent ∙ ap (child (at (get_or parents m 0))) same_label) ∙ b) in
         let bad : l ≡ m = same_rank ranks l m (omega (arith, less, lt')) lt' one in
         omega (arith, less, bad);
   }
@@ -57,22 +57,22 @@ module _ {child : ℕ → ℕ → Option ℕ} {label : ℕ → ℕ} {n units : �
           let entry = are.closed k here c t is in
           let unit : c ≡ get_or labels entry.0 0 =
           one_unit (at k) c t (omega (arith, ranks.inside k here, are.marks_each)) is ∙ ap label (sym entry.3)
-              ∙ sym (ranks.labelled entry.0 entry.1 entry.2) in
+          ∙ sym (ranks.labelled entry.0 entry.1 entry.2) in
           let to : kid parents labels k c ≡ Some entry.0 =
           ap (λ p. kid parents labels p c) (sym entry.4)
-              ∙ (ap (kid parents labels (get_or parents entry.0 0)) unit
-              ∙ edge parents labels units ranks_trie entry.0 entry.1 (omega (arith, entry.2, ranks.one_each))) in
+          ∙ (ap (kid parents labels (get_or parents entry.0 0)) unit
+          ∙ edge parents labels units ranks_trie entry.0 entry.1 (omega (arith, entry.2, ranks.one_each))) in
           none-some entry.0 (sym e ∙ to)))
       go (Some m) e =
           let b = back parents labels units ranks_trie k c m e in
           ap (λ p. child (at p) c) (sym b.2)
-              ∙ (ap (child (at (get_or parents m 0))) (sym b.3) ∙ edge_to m b.0 (omega (arith, b.1, ranks.one_each)))
+          ∙ (ap (child (at (get_or parents m 0))) (sym b.3) ∙ edge_to m b.0 (omega (arith, b.1, ranks.one_each)))
 
   walk_from : (k : ℕ) (w : List ℕ) → k < length order → walk child (at k) w ≡ option_map at (walk (kid parents labels) k w)
   walk_from k [] here = refl
   walk_from k (c ∷ w) here =
       let Same : Option ℕ → Type 0 = λ o. option_and_then (λ j. walk child j w) (option_map at o) ≡ option_map at
-          (option_and_then (λ j. walk (kid parents labels) j w) o) in
+      (option_and_then (λ j. walk (kid parents labels) j w) o) in
       ap (λ o. option_and_then (λ j. walk child j w) o) (kid_child k c here)
       ∙ (elim (kid parents labels k c) as (λ o. kid parents labels k c ≡ o → Same o) [
         | None ↦ λ e. refl
@@ -105,7 +105,7 @@ module _ {child : ℕ → ℕ → Option ℕ} {label : ℕ → ℕ} {n units : �
         let a = to_rank v i h in
         let b = to_rank w i g in
         one_text parents labels units ranks_trie v w a.0 a.1
-            (b.1 ∙ ap Some (same_rank ranks b.0 a.0 (rank_in w b.0 b.1) (rank_in v a.0 a.1) (b.2 ∙ sym a.2))));
+        (b.1 ∙ ap Some (same_rank ranks b.0 a.0 (rank_in w b.0 b.1) (rank_in v a.0 a.1) (b.2 ∙ sym a.2))));
   }
     where
       dead_at : (m : ℕ) → m < length order → at m ≡ 1 → ⊥

@@ -59,11 +59,29 @@ module _ {child : ℕ → ℕ → Option ℕ} {label : ℕ → ℕ} where
         edge = λ m pos lt.
             let at_k = old_at order j k here in
             let up = h.earlier m pos in
-            grind (arith, old_or_new m lt, old_parents m, old_at order j m, old_at order j (get_or parents m 0), h.edge m pos,
-                new_parents m, new_order m, edge);
+            grind (
+              arith,
+              old_or_new m lt,
+              old_parents m,
+              old_at order j m,
+              old_at order j (get_or parents m 0),
+              h.edge m pos,
+              new_parents m,
+              new_order m,
+              edge,
+            );
         labelled = λ m pos lt.
-            grind (arith, old_or_new m lt, old_at labels u m, old_at order j m, h.labelled m pos, h.label_each, get_or_push labels u 0 m,
-                new_order m, is);
+            grind (
+              arith,
+              old_or_new m lt,
+              old_at labels u m,
+              old_at order j m,
+              h.labelled m pos,
+              h.label_each,
+              get_or_push labels u 0 m,
+              new_order m,
+              is,
+            );
         alive = λ m pos lt. grind (arith, old_or_new m lt, old_at order j m, new_order m, h.alive m pos);
         inside = λ m lt. grind (arith, old_or_new m lt, old_at order j m, new_order m, h.inside m, length-set marks j (length order));
         ranked = λ m lt. grind (arith, old_or_new m lt, kept m, h.ranked m, new_order m, get_or-set_same marks j (length order) 0 high);

@@ -20,7 +20,7 @@ use Rattle.daachorse_checker.proofs.JoinLaws.{ranks_trie, walk_ranks, reached_ra
 module _ {V : Type 0} (width : ℕ → ℕ) (a : Machine V) {label : ℕ → ℕ} {n units : ℕ} {order parents labels marks : List ℕ}
     (are : AreRanks a.child label n order parents labels marks)
     (inside : (i c j : ℕ) → a.child i c ≡ Some j → c < units) (one_unit : (i c j : ℕ) → i < n → a.child i c ≡ Some j → c ≡ label j)
-        (stops : List Bool) where
+    (stops : List Bool) where
   abbrev child_rank : ℕ → ℕ → Option ℕ
   child_rank = kid parents labels
 
@@ -59,7 +59,7 @@ module _ {V : Type 0} (width : ℕ → ℕ) (a : Machine V) {label : ℕ → ℕ
   right_is true are_stops u w =
       ap (λ known. element_of width a (left_fail (content width a) known (u ∷ w))) known_same
       ∙ ap (element_of width a) (sym
-          (left_fail-same (keys child_rank (stop stops)) (content width a) (key_same are_stops) (is_reached child_rank) (u ∷ w)))
+      (left_fail-same (keys child_rank (stop stops)) (content width a) (key_same are_stops) (is_reached child_rank) (u ∷ w)))
   right_is false are_stops u w =
       ap (λ known. walk a.child 0 (long known w)) known_same
       ∙ ap (element_of width a) (sym (left_fail-none (keys child_rank (stop stops)) (key_none are_stops) (is_reached child_rank) u w))

@@ -34,12 +34,12 @@ module _ {child : ℕ → ℕ → Option ℕ} {label : ℕ → ℕ} {n : ℕ} {o
         let text = text_at are.ranks (get_or parents m 0) (omega (arith, up, lt)) in
         let c = label (get_or order m 0) in
         let to : Leads child (text.0 ++ c ∷ []) (get_or order m 0) = walk-push child 0 text.0 c (get_or order (get_or parents m 0) 0) text.1
-            ∙ are.ranks.edge m pos lt in
+        ∙ are.ranks.edge m pos lt in
         let here : Leads child w (get_or order m 0) = leads ∙ ap (λ q. Some (get_or order q 0)) same in
         let one : w ≡ text.0 ++ c ∷ [] = tree.one_path (get_or order m 0) w (text.0 ++ c ∷ []) here to in
         let total : size width (text.0 ++ c ∷ []) ≡ size width text.0 + size width (c ∷ []) = size-append width text.0 (c ∷ []) in
         let front : get_or sizes (get_or parents m 0) 0 ≡ size width text.0 =
-            are_sizes (get_or parents m 0) text.0 (omega (arith, up, each)) text.1 in
+        are_sizes (get_or parents m 0) text.0 (omega (arith, up, each)) text.1 in
         let unit : width (get_or labels m 0) ≡ width c = ap width (are.ranks.labelled m pos lt) in
         let value : s ≡ size width (text.0 ++ c ∷ []) = omega (arith, e, front, unit, total) in
         get_or_push sizes s 0 k (each ∙ sym same) ∙ (value ∙ sym (ap (size width) one))

@@ -30,4 +30,4 @@ pub record HaveRightChains {V : Type 0} (a : Machine V) (order sizes : List ℕ)
 abbrev pub AreStopsAt : {V : Type 0} → Machine V → Bool → List ℕ → List ℕ → List Bool → Type 0
 AreStopsAt a leftmost order sizes stops =
     (m : ℕ) → m < length stops → slice_index_or stops m false ≡ cond leftmost
-        (has_values (own_from a.outputs (a.output (slice_index order m)) (slice_index sizes m) (a.output (slice_index order m))).0) false
+    (has_values (own_from a.outputs (a.output (slice_index order m)) (slice_index sizes m) (a.output (slice_index order m))).0) false

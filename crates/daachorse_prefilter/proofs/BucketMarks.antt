@@ -51,7 +51,7 @@ closed_at entries mask y i h = ap (λ n. is_clear n i) (get_or-map (λ e. bit_an
 -- a bit of one entry
 pub unset_opens : (entries : List ℕ) (x bit y i : ℕ) → x < length entries → bit < 64 → i < 64
     → is_clear (get_or (set entries x (bit_and (get_or entries x 0) (bit_not w64 (1 * 2 ^ bit % 2 ^ 64)))) y 0) i
-        ≡ (is_clear (get_or entries y 0) i || ((i == bit) && (y == x)))
+    ≡ (is_clear (get_or entries y 0) i || ((i == bit) && (y == x)))
 unset_opens entries x bit y i inside h within = by (eqb_tells y x)
   where
     new : ℕ
@@ -62,7 +62,7 @@ unset_opens entries x bit y i inside h within = by (eqb_tells y x)
     by (inl (test, same)) =
         ap (λ z. is_clear (get_or (set entries x new) z 0) i) same ∙ ap (λ n. is_clear n i) (get_or-set_same entries x new 0 inside)
         ∙ is_clear_unset (get_or entries x 0) bit i h within
-            ∙ ap (λ b. is_clear (get_or entries x 0) i || b) (sym (and_true (i == bit) (y == x) test))
+        ∙ ap (λ b. is_clear (get_or entries x 0) i || b) (sym (and_true (i == bit) (y == x) test))
         ∙ ap (λ z. is_clear (get_or entries z 0) i || ((i == bit) && (y == x))) (sym same)
     by (inr (test, other)) = ap (λ n. is_clear n i) (get_or-set_other entries x y new 0 other)
         ∙ sym (or_and_false (is_clear (get_or entries y 0) i) (i == bit) (y == x) test)
@@ -105,7 +105,7 @@ unfolding some_below
 opens_byte old cur new t f n before is =
     let next : suc n ≡ n + 1 = omega arith in
     is ∙ ap (λ b. b || (t && f n)) before ∙ one_more old (t && some_below f n) (t && f n)
-        ∙ ap (λ b. old || b) (in_bit t (f n) (some_below f n)) ∙ ap (λ m. old || (t && some_below f m)) next
+    ∙ ap (λ b. old || b) (in_bit t (f n) (some_below f n)) ∙ ap (λ m. old || (t && some_below f m)) next
 
 -- no third byte yet
 pub opens_none : (old t : Bool) (f : ℕ → Bool) → old ≡ (old || (t && some_below f 0))
@@ -130,7 +130,7 @@ module _ (pattern : List ℕ) (bucket : ℕ) where
   opens_next k y i old cur new before is =
       let next : suc k ≡ k + 1 = omega arith in
       is ∙ ap (λ b. b || ((i == 56 - 8 * k + bucket) && has_slot pattern k y)) before
-          ∙ one_more old (opens pattern bucket k y i) ((i == 56 - 8 * k + bucket) && has_slot pattern k y)
+      ∙ one_more old (opens pattern bucket k y i) ((i == 56 - 8 * k + bucket) && has_slot pattern k y)
       ∙ ap (λ m. old || opens pattern bucket m y i) next
 
   pub opens_all : (k y i : ℕ) (old new : Bool) → k ≡ 8 → new ≡ (old || opens pattern bucket k y i)
@@ -170,7 +170,7 @@ own_slot pattern rest k = by (cases_lt (length pattern) (k + 3)) (cases_eq (k + 
         two_slots pattern k (slot_at w k) two
         ∙ some_below-found (λ c. slot_at w k == slot (get_or pattern k 0) (get_or pattern (k + 1) 0) c) 256 (third % 256) (omega arith)
         (eq-eqb _ _ (slot_same _ _ _ _ _ third (at k (omega arith)) (at (k + 1) (omega arith)) refl
-            ∙ slot_low (get_or pattern k 0) (get_or pattern (k + 1) 0) third))
+        ∙ slot_low (get_or pattern k 0) (get_or pattern (k + 1) 0) third))
     by (inl short) (inr fewer) = any_slots pattern k (slot_at w k) (let apart : k + 2 ≢ length pattern = fewer in omega arith)
 
 -- wherever a pattern begins that is marked, its bucket lets the window pass

@@ -30,12 +30,12 @@ none_more after before new old change same = omega arith
 counted_at : (entries counts : List ℕ) (k pair e : ℕ) → k < 8 → length counts ≡ 8 → pair < length entries → e ≡ get_or entries pair 0
     → ArePairCounts entries counts →
     (j : ℕ) → j < 8 → (j ≡ k) ⊎ (j ≢ k) → get_or (set counts k (get_or counts k 0 + e / 2 ^ k % 2)) j 0 ≡ count_clear
-        (set entries pair (cleared e k)) j
+    (set entries pair (cleared e k)) j
 counted_at entries counts k pair e h size inside is counted j hj (inl here) =
     ap (λ n. get_or (set counts k (get_or counts k 0 + e / 2 ^ k % 2)) n 0) here
     ∙ get_or-set_same counts k (get_or counts k 0 + e / 2 ^ k % 2) 0 (omega arith)
     ∙ one_more (count_clear (set entries pair (cleared e k)) k) (count_clear entries k) (one_if_clear k (cleared e k))
-        (one_if_clear k (get_or entries pair 0)) (e / 2 ^ k % 2) (get_or counts k 0)
+    (one_if_clear k (get_or entries pair 0)) (e / 2 ^ k % 2) (get_or counts k 0)
     (sum_by-set (one_if_clear k) entries pair (cleared e k) 0 inside)
     (ap (λ b. cond b 1 0) (is_clear_cleared_same e k h))
     (ap (λ n. one_if_clear k n + e / 2 ^ k % 2) (sym is) ∙ bit_value (e / 2 ^ k))
@@ -45,7 +45,7 @@ counted_at entries counts k pair e h size inside is counted j hj (inr other) =
     get_or-set_other counts k j (get_or counts k 0 + e / 2 ^ k % 2) 0 other
     ∙ counted j hj
     ∙ none_more (count_clear (set entries pair (cleared e k)) j) (count_clear entries j) (one_if_clear j (cleared e k))
-        (one_if_clear j (get_or entries pair 0))
+    (one_if_clear j (get_or entries pair 0))
     (sum_by-set (one_if_clear j) entries pair (cleared e k) 0 inside)
     (ap (λ b. cond b 1 0) (is_clear_cleared_other e k j h hj other ∙ ap (λ n. is_clear n j) is))
 

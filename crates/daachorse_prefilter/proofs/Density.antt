@@ -17,8 +17,11 @@ few_ways entries k ways count size low e =
     rw (exponent, pow-add) (mul-le ways count (2 ^ (16 * k)) (2 ^ 16) low few)
 
 pow_le : (i j : ℕ) → i ≤ j → 2 ^ i ≤ 2 ^ j
-pow_le i j h = elim (cases_lt i j) [ inl less ↦ (let p = pow_below i j less in omega arith) | inr most ↦
-    (let e : i ≡ j = omega arith in rw e (let q : 2 ^ j ≤ 2 ^ j = omega arith in q)) ]
+pow_le i j h = elim (cases_lt i j) [
+  | inl less ↦ (let p = pow_below i j less in omega arith)
+  | inr most ↦
+      (let e : i ≡ j = omega arith in rw e (let q : 2 ^ j ≤ 2 ^ j = omega arith in q))
+]
 
 -- a product that is too large for 128 bits is that of all eight offsets
 pub too_many : (entries : List ℕ) (k n ways count : ℕ) → length entries ≡ 65536 → k < n → n ≤ 8 → ways ≡ count_ways entries k

@@ -42,7 +42,7 @@ pub marked_end : (before now w : List ℕ) (i : ℕ) → length w ≤ i → i �
     → pair < 65536 → j < 8 → is_clear (get_or now pair 0) j ≡ (is_clear (get_or before pair 0) j || has_pair pair j w)
 marked_end before now w i most which marked pair j h hj =
     marked pair j h hj ∙ ap (λ t. is_clear (get_or before pair 0) j || t)
-        (ap (λ t. t && (pair_at w j == pair)) (same which) ∙ sym (has_pair_at pair j w))
+    (ap (λ t. t && (pair_at w j == pair)) (same which) ∙ sym (has_pair_at pair j w))
   where
     same : (i ≤ length w) ⊎ (i ≡ 1) → nat_lt (suc j) i ≡ nat_lt (suc j) (length w)
     same (inl least) = ap (λ n. nat_lt (suc j) n) (let e : i ≡ length w = omega arith in e)
@@ -61,7 +61,7 @@ marked_at : (before now w : List ℕ) (i e : ℕ) → 1 ≤ i → i ≤ 8 → pa
     → AreMarkedBelow before now w i →
     (pair j : ℕ) → pair < 65536 → j < 8 → (pair ≡ pair_at w (i - 1)) ⊎ (pair ≢ pair_at w (i - 1)) → (j ≡ i - 1) ⊎ (j ≢ i - 1) →
     is_clear (get_or (set now (pair_at w (i - 1)) (cleared e (i - 1))) pair 0) j
-        ≡ (is_clear (get_or before pair 0) j || stands w (i + 1) pair j)
+    ≡ (is_clear (get_or before pair 0) j || stands w (i + 1) pair j)
 marked_at before now w i e low high inside is marked pair j h hj (inl here) (inl last) =
     let long : nat_lt (suc j) (i + 1) ≡ true = lt-ltb (suc j) (i + 1) (omega arith) in
     let same : (pair_at w j == pair) ≡ true = eq-eqb _ _ (ap (λ n. pair_at w n) last ∙ sym here) in

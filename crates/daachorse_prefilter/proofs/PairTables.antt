@@ -88,7 +88,7 @@ push_more old before after entries row n m so_far size is pushed =
 pub row_more : (entries row : List ℕ) (byte first : ℕ) → byte < 256 → first < 256 → length row ≡ 256
     → ((k : ℕ) → k < first → get_or row k 0 ≡ get_or entries (transposed (byte * 256 + k)) 0)
     → (k : ℕ) → k < first + 1 → get_or (set row first (get_or entries (first * 256 + byte) 0)) k 0 ≡ get_or entries
-        (transposed (byte * 256 + k)) 0
+    (transposed (byte * 256 + k)) 0
 row_more entries row byte first hb hf size is k h = by (cases_eq k first)
   where
     by : (k ≡ first) ⊎ (k ≢ first) → get_or (set row first (get_or entries (first * 256 + byte) 0)) k 0 ≡ get_or entries
@@ -106,7 +106,7 @@ pub transposed_set : (entries : List ℕ) (pair entry : ℕ) → pair < 65536 �
     → transposed_table (set entries pair entry) ≡ set (transposed_table entries) (transposed pair) entry
 transposed_set entries pair entry inside size =
     same_items 65536 (transposed_table (set entries pair entry)) (set (transposed_table entries) (transposed pair) entry)
-        (length-transposed_table (set entries pair entry))
+    (length-transposed_table (set entries pair entry))
     (length-set (transposed_table entries) (transposed pair) entry ∙ length-transposed_table entries)
     (λ k h. get_or-transposed_table (set entries pair entry) k h ∙ by k h (cases_eq k (transposed pair)))
   where
@@ -115,7 +115,7 @@ transposed_set entries pair entry inside size =
     by k h (inl here) =
         let back : transposed k ≡ pair = ap transposed here ∙ transposed_twice pair inside in
         let wide : transposed pair < length (transposed_table entries) =
-            subst (λ n. transposed pair < n) (sym (length-transposed_table entries)) (transposed_below pair inside) in
+        subst (λ n. transposed pair < n) (sym (length-transposed_table entries)) (transposed_below pair inside) in
         get_or-set_at entries pair (transposed k) entry 0 back (subst (λ n. pair < n) (sym size) inside)
         ∙ sym (get_or-set_at (transposed_table entries) (transposed pair) k entry 0 here wide)
     by k h (inr other) =
@@ -145,7 +145,7 @@ transposed_bytes entries bytes k = by (cases_lt k 65536)
     by (inl inside) = subst (λ n. n < 2 ^ 8) (sym (get_or-transposed_table entries k inside)) (bytes (transposed k))
     by (inr past) =
         let zero_there : get_or (transposed_table entries) k 0 ≡ 0 =
-            get_or_past (transposed_table entries) k 0 (subst (λ n. n ≤ k) (sym (length-transposed_table entries)) past) in
+        get_or_past (transposed_table entries) k 0 (subst (λ n. n ≤ k) (sym (length-transposed_table entries)) past) in
         omega arith
 
 -- two tables are equal just where they are in memory
@@ -154,10 +154,12 @@ pub transposed_eq : (v w : List ℕ) → length v ≡ 65536 → length w ≡ 655
 transposed_eq v w size other =
     let plain = slice_eq-Decides Decides-eqb v w (pointwise nat_eq v w) refl in
     let in_memory = slice_eq-Decides Decides-eqb (transposed_table v) (transposed_table w)
-        (pointwise nat_eq (transposed_table v) (transposed_table w)) refl in
-    same_from_decides (pointwise nat_eq v w) (pointwise nat_eq (transposed_table v) (transposed_table w)) plain
-    (λ t. sym (transposed_table_twice v size) ∙ ap transposed_table (in_memory.0 t)
-        ∙ transposed_table_twice w other, λ e. in_memory.1 (ap transposed_table e))
+    (pointwise nat_eq (transposed_table v) (transposed_table w)) refl in
+    same_from_decides (pointwise nat_eq v w) (pointwise nat_eq (transposed_table v) (transposed_table w)) plain (
+      λ t. sym (transposed_table_twice v size) ∙ ap transposed_table (in_memory.0 t)
+          ∙ transposed_table_twice w other,
+      λ e. in_memory.1 (ap transposed_table e),
+    )
 
 -- the pair of bytes a and b, which has this number in memory
 pub transposed_is : (a b pair : ℕ) → a < 256 → pair ≡ a + b * 256 → transposed pair ≡ a * 256 + b

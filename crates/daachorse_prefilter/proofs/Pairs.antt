@@ -13,9 +13,9 @@ pub entry_read : (entries : List ℕ) (as_read : ℕ → ℕ) (h : List ℕ) (pl
 entry_read entries as_read h place pair entry i inside at first second is =
     let back : i - 1 ≡ place = omega arith in
     let before : get_or (map as_read h) (i - 1) 0 ≡ pair % 256 = ap (λ n. get_or (map as_read h) n 0) back
-        ∙ get_or-map as_read h place 0 0 (omega arith) ∙ sym first in
+    ∙ get_or-map as_read h place 0 0 (omega arith) ∙ sym first in
     let behind : get_or (map as_read h) i 0 ≡ pair / 256 = ap (λ n. get_or (map as_read h) n 0) at
-        ∙ get_or-map as_read h (place + 1) 0 0 inside ∙ sym second in
+    ∙ get_or-map as_read h (place + 1) 0 0 inside ∙ sym second in
     let same : transposed pair ≡ pair_before (map as_read h) i = omega arith in
     is ∙ ap (λ n. get_or entries n 0) same
 
@@ -24,9 +24,9 @@ pub bits_read : (entries : List ℕ) (as_read : ℕ → ℕ) (h : List ℕ) (las
     → place + 1 < length h
     → pair % 256 ≡ as_read (get_or h place 0) → pair / 256 ≡ as_read (get_or h (place + 1) 0) → entry ≡ get_or entries (transposed pair) 0
     → AreBits entries (map as_read h) last pos (place + 1) state
-        → AreBits entries (map as_read h) last pos (place + 1 + 1) (next_state state entry)
+    → AreBits entries (map as_read h) last pos (place + 1 + 1) (next_state state entry)
 bits_read entries as_read h last pos place state pair entry small low inside first second is bits =
     let size : length (map as_read h) ≡ length h = length-map h as_read in
     let same = entry_read entries as_read h place pair entry (place + 1) inside refl first second is in
     bits_next entries (map as_read h) last pos (place + 1) state entry small (omega arith) (omega arith)
-        (λ b hb. ap (λ e. is_clear e b) same) bits
+    (λ b hb. ap (λ e. is_clear e b) same) bits

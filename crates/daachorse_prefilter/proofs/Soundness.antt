@@ -96,4 +96,4 @@ some_sparse entries patterns m size bytes some is low marked sparse =
     let worth : is_sparse (first_entries patterns 65536) (window_len patterns - 1) ≡ true = rw (← same, ← is) sparse in
     let long : nat_le 2 (window_len patterns) ≡ true = le-leb 2 (window_len patterns) (omega arith) in
     ap (λ f. Some f) (same_filter entries patterns m is same)
-        ∙ some_made patterns some (and_from (nat_le 2 (window_len patterns)) _ long worth)
+    ∙ some_made patterns some (and_from (nat_le 2 (window_len patterns)) _ long worth)

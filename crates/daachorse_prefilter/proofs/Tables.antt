@@ -44,7 +44,7 @@ packed_bits test j (suc n) zero k h e =
     ap (λ m. m == 0) (first_bit (cond (test j) 0 1 + 2 * packed test (suc j) n)) ∙ bit_is (test j) (packed test (suc j) n) ∙ ap test same
 packed_bits test j (suc n) (suc i) k h e =
     ap (λ m. m == 0) (bit_at-suc (cond (test j) 0 1 + 2 * packed test (suc j) n) i
-        ∙ ap (λ m. bit_at m i) (half_is (test j) (packed test (suc j) n)))
+    ∙ ap (λ m. bit_at m i) (half_is (test j) (packed test (suc j) n)))
     ∙ packed_bits test (suc j) n i k (omega arith) (omega arith)
 
 bit_small : (b : Bool) → cond b 0 1 ≤ 1

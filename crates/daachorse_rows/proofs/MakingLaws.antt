@@ -40,7 +40,7 @@ module _ {L : Type 0} (number : L → ℕ) where
   stands_read exact stands labels k other less unit (label, named, coded) =
       let P : L → Type 0 = λ l. stands l unit in
       subst P (exact label (get_or labels k other)
-          (named ∙ get_or-map number labels k other 0 (omega (arith, less, length-map labels number)))) coded
+      (named ∙ get_or-map number labels k other 0 (omega (arith, less, length-map labels number)))) coded
 
 -- ---- the slots of labels
 
@@ -98,9 +98,10 @@ fits_rows n w few = omega (arith, mul-le n w (63168 / w) w few (omega arith), di
 pub most_fits : {V : Type 0} (seen : Labelled V) → AreLabelled seen → (0 < most_rows seen) × (most_rows seen < 65535)
 most_fits seen named =
     let wide : 1 ≤ seen.width = omega (arith, named.width) in
-    let fits : 1 * seen.width ≤ 63168 = omega (arith, named.width, named.few) in
-    ((le-div_iff_mul-le wide).1 fits,
-        omega (arith, div-mul-le_self 63168 seen.width, mul-le (63168 / seen.width) 1 (63168 / seen.width) seen.width (omega arith) wide))
+    let fits : 1 * seen.width ≤ 63168 = omega (arith, named.width, named.few) in (
+      (le-div_iff_mul-le wide).1 fits,
+      omega (arith, div-mul-le_self 63168 seen.width, mul-le (63168 / seen.width) 1 (63168 / seen.width) seen.width (omega arith) wide),
+    )
 
 pub HaveRows-chosen : {V : Type 0} (seen : Labelled V) (order homes : List ℕ) → AreLabelled seen → AreChosen seen order homes
     → HaveRows order homes seen.width
@@ -159,9 +160,11 @@ module _ {V : Type 0} (seen : Labelled V) (order homes : List ℕ) where
                 (omega (arith, home, size), read-new order order' s (slice_index homes' q) is home ∙ sym same)
             | inr other ↦
                 let old : slice_index homes' q ≡ slice_index homes q = other_home q other in
-                let home = h.homes q (omega (arith, below, ap length at, length-set homes s (length order))) (λ e. some (old ∙ e)) in
-                (omega (arith, old, home.0, size), ap (slice_index order') old
-                    ∙ (read-old order order' s (slice_index homes q) is home.0 ∙ home.1))
+                let home = h.homes q (omega (arith, below, ap length at, length-set homes s (length order))) (λ e. some (old ∙ e)) in (
+                  omega (arith, old, home.0, size),
+                  ap (slice_index order') old
+                      ∙ (read-old order order' s (slice_index homes q) is home.0 ∙ home.1),
+                )
           ];
       own = λ k below.
           elim (below_or_at k (length order) (count k below)) [
@@ -172,9 +175,12 @@ module _ {V : Type 0} (seen : Labelled V) (order homes : List ℕ) where
                   omega (arith, old, less, h.room),
                 )
             | inr new ↦
-                let here = read-new order order' s k is new in
-                (omega (arith, h.inside s there, here, ap length at, length-set homes s (length order)), ap (slice_index homes') here
-                    ∙ (own_home ∙ sym new), omega (arith, new, less, h.room))
+                let here = read-new order order' s k is new in (
+                  omega (arith, h.inside s there, here, ap length at, length-set homes s (length order)),
+                  ap (slice_index homes') here
+                      ∙ (own_home ∙ sym new),
+                  omega (arith, new, less, h.room),
+                )
           ];
       few = omega (arith, size, less);
       room = h.room;
@@ -221,7 +227,7 @@ module _ {V : Type 0} (unit_width : ℕ → ℕ) (seen : Labelled V) (order : Li
     rows = λ k' c' above within.
         let P : ℕ → Type 0 = λ x. Slot k' c' x in
         subst P (sym (read-old top top' v (2 * (k' * seen.width) + c') is
-            (omega (arith, h.size, row_below k' k seen.width c' above within)))) (h.rows k' c' above within);
+        (omega (arith, h.size, row_below k' k seen.width c' above within)))) (h.rows k' c' above within);
     row = λ c' below.
         let P : ℕ → Type 0 = λ x. Slot k c' x in
         elim (below_or_at c' c (omega (arith, below, next))) [
@@ -243,7 +249,7 @@ module _ {V : Type 0} (unit_width : ℕ → ℕ) (seen : Labelled V) (order : Li
           | inl old ↦
               let P : ℕ → Type 0 = λ x. Slot k' c' x in
               subst P (sym (same (2 * (k' * seen.width) + c') (omega (arith, h.size, row_below k' k seen.width c' old within))))
-                  (h.rows k' c' old within)
+              (h.rows k' c' old within)
           | inr new ↦ let P : ℕ → Type 0 = λ x. Slot x c' (slice_index top' (2 * (x * seen.width) + c')) in subst P (sym new) (here c')
         ];
     row = λ c' below. absurd (omega (arith, below));
@@ -256,7 +262,7 @@ module _ {V : Type 0} (unit_width : ℕ → ℕ) (seen : Labelled V) (order : Li
           let before : suc (suc c') < c = omega (arith, all, slot_inside seen.labels label (suc (suc c')) slot) in
           let P : ℕ → Type 0 = λ x. Slot k (suc (suc c')) x in
           subst P (sym (same (2 * (k * seen.width) + suc (suc c')) (omega (arith, h.size, before))))
-              (h.row (suc (suc c')) before) label byte slot
+          (h.row (suc (suc c')) before) label byte slot
 
   -- the entry of a state whose outputs begin at this position
   entry_first : (s v : ℕ) (o : Option NonZeroU32) → IsEntry order seen.width s (o ≡ None) v → HasFirst unit_width seen.view s o
@@ -265,7 +271,7 @@ module _ {V : Type 0} (unit_width : ℕ → ℕ) (seen : Labelled V) (order : Li
   entry_first s v o (inr entry) at =
       let P : Option NonZeroU32 → Type 0 = λ p. HasFirst unit_width seen.view s p in
       inr (IsSlotEntry-map (length order * seen.width) (λ x. Stands order seen.width x s) (λ x. Stands order seen.width x s) (o ≡ None)
-          (HasFirst unit_width seen.view s None) v entry (λ x there. there) (λ none. subst P none at))
+      (HasFirst unit_width seen.view s None) v entry (λ x there. there) (λ none. subst P none at))
 
   module _ (named : AreLabelled seen) where
     foreign : (label unit : ℕ) → label < 638 → seen.stands label unit
@@ -293,8 +299,12 @@ module _ {V : Type 0} (unit_width : ℕ → ℕ) (seen : Labelled V) (order : Li
       let e : suc (suc (suc j)) ≡ c = omega (arith, at) in
       let P : ℕ → Type 0 = λ x. Slot k x v in
       let Q : ℕ → Type 0 = λ l. StepLeads seen.view seen.stands (slice_index order k) l t in
-      subst P e (λ label byte slot. (t, entry_first t v o entry told, subst Q (slot_own j label slot) leads,
-          λ two. absurd (omega (arith, two))))
+      subst P e (λ label byte slot. (
+        t,
+        entry_first t v o entry told,
+        subst Q (slot_own j label slot) leads,
+        λ two. absurd (omega (arith, two)),
+      ))
 
   -- where a look tells a link, the step ends as from there, so that the slot of the link's row serves
   pub slot_link : (k j l c v : ℕ) → c ≡ 3 + l → Slot j c v → StepsAs seen (slice_index order k) l (slice_index order j) → Slot k c v
@@ -305,13 +315,20 @@ module _ {V : Type 0} (unit_width : ℕ → ℕ) (seen : Labelled V) (order : Li
       let told_by : Slot j (suc (suc (suc l))) v = subst Q (sym e) slot in
       subst P e (λ label byte here.
       let told = told_by label byte here in
-      let R : ℕ → ℕ → Type 0 = λ unit n. seen.stands n unit in
-      (told.0, told.1, record { is_state = told.2.is_state; ends = λ unit coded.
-          on unit told.0 (subst (R unit) (sym (slot_own l label here)) coded) (told.2.ends unit coded) }, told.3))
+      let R : ℕ → ℕ → Type 0 = λ unit n. seen.stands n unit in (
+        told.0,
+        told.1,
+        record {
+          is_state = told.2.is_state;
+          ends = λ unit coded.
+              on unit told.0 (subst (R unit) (sym (slot_own l label here)) coded) (told.2.ends unit coded);
+        },
+        told.3,
+      ))
 
 module _ {V : Type 0} (unit_width : ℕ → ℕ) (seen : Labelled V) (table : RowTable) (order : List ℕ)
     (count_is : table.count ≡ length order) (named : AreLabelled seen)
-        (w : AreWritten unit_width seen order (length order) 0 table.top) where
+    (w : AreWritten unit_width seen order (length order) 0 table.top) where
   abbrev r : RowTable
   r = record table { width = seen.width }
 
@@ -324,9 +341,9 @@ module _ {V : Type 0} (unit_width : ℕ → ℕ) (seen : Labelled V) (table : Ro
       let low = ap (slice_index r.top) e ∙ w.rows k 0 below (omega (arith, wide)) in
       let high = w.rows k 1 below (omega (arith, wide)) in
       let whole : slice_index r.top (2 * (k * r.width)) + 65536 * slice_index r.top (2 * (k * r.width) + 1) ≡ slice_index order k =
-          omega (arith, low, high) in
+      omega (arith, low, high) in
       sym (state_at-slot r.top (k * r.width) (omega (arith, w.size, row_below k (length order) r.width 1 below (omega (arith, wide)))))
-          ∙ whole
+      ∙ whole
 
   stands_for : (x s : ℕ) → Stands order r.width x s → StandsFor r x s
   stands_for x s (inl (k, below, is, at)) = record {
@@ -369,8 +386,8 @@ module _ {V : Type 0} (unit_width : ℕ → ℕ) (seen : Labelled V) (table : Ro
             let Q : ℕ → Type 0 = λ x. IsSlotOf seen.labels label x in
             let T : ℕ → Type 0 = λ x. TellsStep unit_width seen order k x (slice_index r.top (2 * (k * r.width) + x)) label in
             subst T (sym at) (subst P at (w.rows k (class label) more
-                (slot_fits seen.labels label (class label) seen.width named.width (slots.right label less))) label less
-                (subst Q at (slots.right label less)))
+            (slot_fits seen.labels label (class label) seen.width named.width (slots.right label less))) label less
+            (subst Q at (slots.right label less)))
 
     are_rows : AreRows unit_width seen.view seen.stands r
     are_rows = record {
@@ -383,13 +400,16 @@ module _ {V : Type 0} (unit_width : ℕ → ℕ) (seen : Labelled V) (table : Ro
           let row : k < length order = omega (arith, more, count_is) in
           let told = tells k label row less in
           let R : ℕ → Type 0 = λ x. StepLeads seen.view seen.stands x label told.0 in
-          let E : ℕ → Type 0 = λ n. IsSlotEntry n (λ x. StandsFor r x told.0) (HasFirst unit_width seen.view told.0 None) (slot k label) in
-              (
+          let E : ℕ → Type 0 = λ n. IsSlotEntry n (λ x. StandsFor r x told.0) (HasFirst unit_width seen.view told.0 None)
+          (slot k label) in (
             told.0,
             subst R (sym (at_start k row)) told.2,
             elim told.1 [
-              | inl outside ↦ inl (outside.0, λ j below same. let before : j < length order = omega (arith, below, count_is) in
-                  outside.1 j before (sym (at_start j before) ∙ same))
+              | inl outside ↦ inl (
+                outside.0,
+                λ j below same. let before : j < length order = omega (arith, below, count_is) in
+                    outside.1 j before (sym (at_start j before) ∙ same),
+              )
               | inr holds ↦ inr (subst E end_is
                   (IsSlotEntry-map (length order * r.width) (λ x. Stands order r.width x told.0) (λ x. StandsFor r x told.0)
                   (HasFirst unit_width seen.view told.0 None) (HasFirst unit_width seen.view told.0 None) _ holds
@@ -412,15 +432,22 @@ module _ {V : Type 0} (unit_width : ℕ → ℕ) (seen : Labelled V) (table : Ro
     }
       where
         row_of_root : (t : ℕ) → seen.view.reached t → seen.view.text t ≡ [] → (k : ℕ) × (k < length order) × (slice_index order k ≡ t)
-        row_of_root t here none = (0, stepped.root.0, may.single (slice_index order 0) t (choice.chosen.states 0 stepped.root.0) here
-            (stepped.root.1 ∙ sym none))
+        row_of_root t here none = (
+          0,
+          stepped.root.0,
+          may.single (slice_index order 0) t (choice.chosen.states 0 stepped.root.0) here
+              (stepped.root.1 ∙ sym none),
+        )
 
         in_row : (k label : ℕ) {t : ℕ} → IsEntry order r.width t (HasFirst unit_width seen.view t None) (slot k label) → (j : ℕ)
             × (j < length order) × (slice_index order j ≡ t) → slot k label ≢ 65535
         in_row k label (inl outside) row = absurd (outside.1 row.0 row.1 row.2)
         in_row k label (inr holds) row =
-            λ none. elim holds.is [ inl low ↦ omega (arith, low.0, holds.inside, few, none) | inr high ↦
-            omega (arith, high, holds.inside, few, none) ]
+            λ none. elim holds.is [
+              | inl low ↦ omega (arith, low.0, holds.inside, few, none)
+              | inr high ↦
+                  omega (arith, high, holds.inside, few, none)
+            ]
 
         row_of : (k label : ℕ) (more : k < length order) (less : label < 638) → IsSlotOf seen.labels label (class label) → (j : ℕ)
             × (j < length order) × (slice_index order j ≡ (tells k label more less).0)
@@ -432,10 +459,13 @@ module _ {V : Type 0} (unit_width : ℕ → ℕ) (seen : Labelled V) (table : Ro
             let U : ℕ → Type 0 = λ l. seen.stands l some.0 in
             let text : List ℕ = seen.view.text (slice_index order k) in
             let own = StepEnds-long seen.view text (seen.view.text told.0) some.0 (told.2.ends some.0 (subst U here some.1)) may.alive in
-            let other = StepEnds-long seen.view text (seen.view.text (slice_index order row.0)) some.0 (row.2 some.0 some.1) may.alive in
-            (row.0, row.1, may.single (slice_index order row.0) told.0 (choice.chosen.states row.0 row.1) told.2.is_state
-                (IsLong-same seen.view.content (text ++ some.0 ∷ []) (seen.view.text (slice_index order row.0))
-                (seen.view.text told.0) other own))
+            let other = StepEnds-long seen.view text (seen.view.text (slice_index order row.0)) some.0 (row.2 some.0 some.1) may.alive in (
+              row.0,
+              row.1,
+              may.single (slice_index order row.0) told.0 (choice.chosen.states row.0 row.1) told.2.is_state
+                  (IsLong-same seen.view.content (text ++ some.0 ∷ []) (seen.view.text (slice_index order row.0))
+                  (seen.view.text told.0) other own),
+            )
 
     -- the rows are right, cover what the choice covers, and are closed where each step from a chosen state ends at one
     pub Rows-made : (most : ℕ) → AreRows unit_width seen.view seen.stands r × Covers seen.view seen.stands 2 r

@@ -30,7 +30,7 @@ state_at-slot (low ∷ high ∷ top) (suc x) h =
     let a : slice_index (low ∷ high ∷ top) (2 * suc x) ≡ slice_index top (2 * x) = ap (slice_index (low ∷ high ∷ top)) first in
     let b : slice_index (low ∷ high ∷ top) (2 * suc x + 1) ≡ slice_index top (2 * x + 1) = ap (slice_index (low ∷ high ∷ top)) second in
     let e : slice_index (low ∷ high ∷ top) (2 * suc x) + 65536 * slice_index (low ∷ high ∷ top) (2 * suc x + 1) ≡ slice_index top
-        (2 * x) + 65536 * slice_index top (2 * x + 1) = omega (arith, a, b) in
+    (2 * x) + 65536 * slice_index top (2 * x + 1) = omega (arith, a, b) in
     e ∙ state_at-slot top x (omega arith)
 
 -- behind them the states stand in order
@@ -53,7 +53,7 @@ pub cell_past : (r : RowTable) (s x : ℕ) → length r.top ≡ 2 * (r.count * r
     → r.count * r.width + s < 2 ^ 32 → StandsFor r x s
 cell_past r s x size is fits =
     let e : r.count * r.width + s ≡ x = omega (arith, is, fits) in let P : ℕ → Type 0 = λ y. StandsFor r y s in
-        subst P e (cell_behind r s size)
+    subst P e (cell_behind r s size)
 
 module _ {V : Type 0} (unit_width : ℕ → ℕ) (view : AutomatonView V) (stands : ℕ → ℕ → Type 0) (most : ℕ) (r : RowTable)
     (h : AreRows unit_width view stands r) where
@@ -85,13 +85,16 @@ module _ {V : Type 0} (unit_width : ℕ → ℕ) (view : AutomatonView V) (stand
   row_step x label (inl (k, less, is)) within byte some =
       let class = slice_index r.classes label in
       let same : slice_index r.top (2 * (k * r.width) + class) ≡ slice_index r.top (2 * x + class) =
-          ap (λ n. slice_index r.top (2 * n + class)) (sym is) in
+      ap (λ n. slice_index r.top (2 * n + class)) (sym is) in
       let row = h.right k label less byte in
       let P : ℕ → Type 0 = λ e. IsSlotEntry (r.count * r.width) (λ y. StandsFor r y row.0) (HasFirst unit_width view row.0 None) e in
       let here : state_at r.top (k * r.width) ≡ state_at r.top x = ap (state_at r.top) (sym is) in
       let Q : ℕ → Type 0 = λ s. StepLeads view stands s label row.0 in
-      record { state = row.0; tells = elim row.2 [ inl outside ↦ absurd (some (sym same ∙ outside.0)) | inr told ↦ subst P same told ];
-          leads = subst Q here row.1 }
+      record {
+        state = row.0;
+        tells = elim row.2 [ inl outside ↦ absurd (some (sym same ∙ outside.0)) | inr told ↦ subst P same told ];
+        leads = subst Q here row.1;
+      }
 
   -- a look at the row x by a label, where the slot tells the end of the step
   module _ (x label entry : ℕ) (cell : IsCell r x) (within : x < r.count * r.width) (byte : label < 638)

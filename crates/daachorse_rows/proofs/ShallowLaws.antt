@@ -95,8 +95,10 @@ module _ (text : ℕ → List ℕ) (old new : List ℕ) (on : GoesOn old new) wh
 
 module _ (order order' : List ℕ) (s : ℕ) (is : order' ≡ order ++ s ∷ []) where
   pub GoesOn-push : GoesOn order order'
-  GoesOn-push = record { more = omega (arith, ap length is, length-append order (s ∷ []));
-      same = λ k below. read-old order order' s k is below }
+  GoesOn-push = record {
+    more = omega (arith, ap length is, length-append order (s ∷ []));
+    same = λ k below. read-old order order' s k is below;
+  }
 
   -- the state that was added has the last row
   pub row_last : (k : ℕ) × (k < length order') × (slice_index order' k ≡ s)
@@ -107,9 +109,9 @@ module _ (order order' : List ℕ) (s : ℕ) (is : order' ≡ order ++ s ∷ [])
   AreNear-push seen n m near last =
       let size : length order' ≡ length order + 1 = omega (arith, ap length is, length-append order (s ∷ [])) in
       let old : (d k : ℕ) → k < length order → IsShallow seen.stands d (seen.view.text (slice_index order k))
-          → IsShallow seen.stands d (seen.view.text (slice_index order' k)) =
+      → IsShallow seen.stands d (seen.view.text (slice_index order' k)) =
       λ d k below here. (let P : ℕ → Type 0 = λ x. IsShallow seen.stands d (seen.view.text x) in
-          subst P (sym (read-old order order' s k is below)) here) in
+      subst P (sym (read-old order order' s k is below)) here) in
       record {
         inside = omega (arith, near.inside, size);
         first = λ k below. old n k (omega (arith, below, near.inside)) (near.first k below);
@@ -125,9 +127,12 @@ module _ {V : Type 0} (seen : Labelled V) where
   ended_on : (s k unit : ℕ) (order : List ℕ) → EndsInRow seen s k order → seen.stands (slice_index seen.labels k) unit
       → IsPrefix seen.view.content (seen.view.text s ++ unit ∷ []) → (j : ℕ) × (j < length order)
       × (seen.view.text (slice_index order j) ≡ seen.view.text s ++ unit ∷ [])
-  ended_on s k unit order (j, below, ends) coded begins =
-      (j, below, StepEnds-on seen.view.content seen.view.dead (seen.view.text s) (seen.view.text (slice_index order j)) unit
-      (ends unit coded) begins)
+  ended_on s k unit order (j, below, ends) coded begins = (
+    j,
+    below,
+    StepEnds-on seen.view.content seen.view.dead (seen.view.text s) (seen.view.text (slice_index order j)) unit
+        (ends unit coded) begins,
+  )
 
   -- with the ends of all steps the rows cover the texts with one unit more
   pub AreCovered-next : AreLabelled seen → (n : ℕ) (old new : List ℕ) → GoesOn old new → AreStepped seen (length old) new
@@ -150,7 +155,7 @@ module _ {V : Type 0} (seen : Labelled V) where
             | inr listed ↦
                 let S : ℕ → Type 0 = λ l. seen.stands l u in
                 let end = ended_on (slice_index new at.0) listed.0 u new (stepped.ends at.0 listed.0 at.1 listed.1)
-                    (subst S (sym listed.2) last.1.2) onward in
+                (subst S (sym listed.2) last.1.2) onward in
                 (end.0, end.1, end.2 ∙ (ap (λ l. l ++ u ∷ []) row ∙ sym is))
           ]
 
@@ -210,8 +215,12 @@ module _ {V : Type 0} (seen : Labelled V) where
 
   pub AreNear-all : (n : ℕ) (order : List ℕ) → AreShallow seen n order → AreNear seen n (length order) order
   AreNear-all n order shallow =
-      record { inside = omega arith; first = shallow; all = λ k below.
-      IsShallow-weaker seen.stands n (n + 1) (seen.view.text (slice_index order k)) (omega arith) (shallow k below) }
+      record {
+        inside = omega arith;
+        first = shallow;
+        all = λ k below.
+            IsShallow-weaker seen.stands n (n + 1) (seen.view.text (slice_index order k)) (omega arith) (shallow k below);
+      }
 
 -- ---- there is no room
 
@@ -277,7 +286,7 @@ module _ {V : Type 0} (seen : Labelled V) where
     end_shallow d m before near =
         let some = named.labels.none_idle k listed in
         StepEnds-shallow seen.stands seen.view.content seen.view.dead d (seen.view.text (slice_index order at)) (seen.view.text next) some.0
-            (leads.ends some.0 some.1) (near.first at before) (slice_index seen.labels k, named.labels.below k listed, some.1)
+        (leads.ends some.0 some.1) (near.first at before) (slice_index seen.labels k, named.labels.below k listed, some.1)
 
     -- it gets the next row
     pub AreAdded-push : (order' homes' : List ℕ) → order' ≡ order ++ next ∷ [] → homes' ≡ slice_set homes next (length order)
@@ -302,4 +311,4 @@ module _ {V : Type 0} (seen : Labelled V) where
     AreTooMany-next full d m less near =
         let now = added.near d m less near in
         AreTooMany-full seen (d + 1) order homes added.chosen now.all full next leads.is_state
-            (end_shallow d m (omega (arith, less)) now) none
+        (end_shallow d m (omega (arith, less)) now) none

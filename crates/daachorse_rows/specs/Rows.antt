@@ -85,7 +85,7 @@ module _ (labels : List ℕ) where
   abbrev pub IsSlotOf : ℕ → ℕ → Type 0
   IsSlotOf label slot =
       ((k : ℕ) × (k < length labels) × (slice_index labels k ≡ label) × (slot ≡ 3 + k))
-          ⊎ ((slot ≡ 2) × ((k : ℕ) → k < length labels → slice_index labels k ≢ label))
+      ⊎ ((slot ≡ 2) × ((k : ℕ) → k < length labels → slice_index labels k ≢ label))
 
   -- a slot for each label below n
   pub record AreSlots (n : ℕ) (classes : List ℕ) : Type 0 where
@@ -183,9 +183,9 @@ module _ {V : Type 0} (unit_width : ℕ → ℕ) (view : AutomatonView V) (stand
     -- a slot tells where the step ends, but for 65,535, where that is a state with no row
     pub right : (k label : ℕ) → k < r.count → label < 638 → (t : ℕ) × StepLeads view stands (state_at r.top (k * r.width)) label t
         × (((slice_index r.top (2 * (k * r.width) + slice_index r.classes label) ≡ 65535)
-            × ((j : ℕ) → j < r.count → state_at r.top (j * r.width) ≢ t))
+        × ((j : ℕ) → j < r.count → state_at r.top (j * r.width) ≢ t))
         ⊎ IsSlotEntry (r.count * r.width) (λ x. StandsFor r x t) (HasFirst unit_width view t None)
-            (slice_index r.top (2 * (k * r.width) + slice_index r.classes label)))
+        (slice_index r.top (2 * (k * r.width) + slice_index r.classes label)))
     -- in the table of the states' rows 65,535 stands for none
     pub homes : (s : ℕ) → s < length r.homes → slice_index r.homes s ≢ 65535 → (slice_index r.homes s < r.count)
         × (state_at r.top (slice_index r.homes s * r.width) ≡ s)

@@ -32,13 +32,23 @@ overflow_add-size g c =
     let ranks = c.requires.ranks.ranks in
     let lt : m < length p.order.items = omega (arith, c.loop-rank-test.true, c.len-rank-end.ensures) in
     let parent : c.index.result.now ≡ get_or p.parents.items m 0 =
-        get_or_read p.parents.items m c.index.result.now (omega (arith, lt, ranks.one_each)) c.index.ensures 0 in
+    get_or_read p.parents.items m c.index.result.now (omega (arith, lt, ranks.one_each)) c.index.ensures 0 in
     let up = ranks.earlier m pos lt in
     let in' : c.index.result.now < length sizes = omega (arith, parent, up, inv.each) in
     let size : c.index-in-loop-rank.result.now ≡ get_or sizes c.index.result.now 0 =
-        get_or_read sizes c.index.result.now c.index-in-loop-rank.result.now in' c.index-in-loop-rank.ensures 0 in
-    omega (arith, size, inv.short c.index.result.now in', c.width.ensures.short, parent, up, lt, few ranks, c.requires.ranks.marks_each,
-        c.requires.few)
+    get_or_read sizes c.index.result.now c.index-in-loop-rank.result.now in' c.index-in-loop-rank.ensures 0 in
+    omega (
+      arith,
+      size,
+      inv.short c.index.result.now in',
+      c.width.ensures.short,
+      parent,
+      up,
+      lt,
+      few ranks,
+      c.requires.ranks.marks_each,
+      c.requires.few,
+    )
 
 pub loop-rank-preserved : goal.loop-rank-preserved
 loop-rank-preserved g c =
@@ -51,20 +61,20 @@ loop-rank-preserved g c =
     let ranks = c.requires.ranks.ranks in
     let lt : m < length p.order.items = omega (arith, c.loop-rank-test.true, c.len-rank-end.ensures) in
     let parent : c.index.result.now ≡ get_or p.parents.items m 0 =
-        get_or_read p.parents.items m c.index.result.now (omega (arith, lt, ranks.one_each)) c.index.ensures 0 in
+    get_or_read p.parents.items m c.index.result.now (omega (arith, lt, ranks.one_each)) c.index.ensures 0 in
     let up = ranks.earlier m pos lt in
     let in' : c.index.result.now < length sizes = omega (arith, parent, up, inv.each) in
     let size : c.index-in-loop-rank.result.now ≡ get_or sizes c.index.result.now 0 =
-        get_or_read sizes c.index.result.now c.index-in-loop-rank.result.now in' c.index-in-loop-rank.ensures 0 in
+    get_or_read sizes c.index.result.now c.index-in-loop-rank.result.now in' c.index-in-loop-rank.ensures 0 in
     let label : c.index-in-loop-rank-2.result.now ≡ get_or p.labels.items m 0 =
-        get_or_read p.labels.items m c.index-in-loop-rank-2.result.now
-        (omega (arith, lt, ranks.label_each)) c.index-in-loop-rank-2.ensures 0 in
+    get_or_read p.labels.items m c.index-in-loop-rank-2.result.now
+    (omega (arith, lt, ranks.label_each)) c.index-in-loop-rank-2.ensures 0 in
     let s = c.index-in-loop-rank.result.now + c.width.result in
     let unit : c.width.result ≡ (g.E.Array.sees a).width (get_or p.labels.items m 0) = c.width.ensures.value
-        ∙ ap (g.E.Array.sees a).width label in
+    ∙ ap (g.E.Array.sees a).width label in
     let from : get_or sizes c.index.result.now 0 ≡ get_or sizes (get_or p.parents.items m 0) 0 = ap (λ i. get_or sizes i 0) parent in
     let value : s ≡ get_or sizes (get_or p.parents.items m 0) 0 + (g.E.Array.sees a).width (get_or p.labels.items m 0) =
-        omega (arith, size, from, unit) in
+    omega (arith, size, from, unit) in
     let items : c.push-in-loop-rank.new.self.items ≡ sizes ++ s ∷ [] = search rules in
     let fits : s ≤ 4 * m = omega (arith, size, inv.short c.index.result.now in', c.width.ensures.short, parent, up) in
     let are : AreSizes (g.E.Array.sees a).child (g.E.Array.sees a).width p.order.items (sizes ++ s ∷ []) =

@@ -17,7 +17,7 @@ loop-rank-preserved g c =
     let lt : m < length order = omega (arith, c.loop-rank-test.true, c.len-rank-end.ensures) in
     let at : c.index-element.result.now ≡ get_or order m 0 = get_or_read order m c.index-element.result.now lt c.index-element.ensures 0 in
     let here : IsChained a (get_or c.args.leaves.now m false) (get_or c.args.sizes.now m 0) (get_or order m 0) =
-        rw at at (c.if-not-chain_holds.ensures.0 refl) in
+    rw at at (c.if-not-chain_holds.ensures.0 refl) in
     let P : ℕ → Type 0 = λ q. 0 < q → IsChained a (get_or c.args.leaves.now q false) (get_or c.args.sizes.now q 0) (get_or order q 0) in
     record { each = λ k pos less. below_more P m (λ q below pos. c.loop-rank.invariant.each q pos below) (λ pos. here) k less pos }
 
@@ -58,5 +58,5 @@ returns-then-not-chain_holds g c =
       λ e. absurd (false≢true e),
       λ chained. c.if-not-chain_holds.ensures.1
           (subst (λ i. IsChained a (get_or c.args.leaves.now m false) (get_or c.args.sizes.now m 0) i) (sym at)
-              (chained.others m (omega (arith, c.loop-rank.auto.rank)) lt)),
+          (chained.others m (omega (arith, c.loop-rank.auto.rank)) lt)),
     )

@@ -21,8 +21,12 @@ returns-then-len-num_states-clause-ok g c =
     let both = rw c.in-Some.is at c.in_ok-ranks.ensures.yes in (
       λ e. absurd (false≢true e),
       λ right. absurd (c.if-len-num_states.true
-          (omega (arith, c.len.ensures, same_count view.width
-              (machine_of view c.args.outputs.now) c.requires.edges.tell both.1 both.0 c.args.num_states right.1))),
+          (omega (
+            arith,
+            c.len.ensures,
+            same_count view.width
+                (machine_of view c.args.outputs.now) c.requires.edges.tell both.1 both.0 c.args.num_states right.1,
+          ))),
     )
 
 pub returns-then-not-chains_hold-clause-ok : goal.returns-then-not-chains_hold-clause-ok
@@ -30,12 +34,12 @@ returns-then-not-chains_hold-clause-ok g c =
     let view = g.E.Array.sees c.args.array.now in
     let parents = c.in-Some.ranks.parents.items in
     let both = rw c.in-Some.is at c.in_ok-ranks.ensures.yes in
-    let leafy : AreLeavesOf parents c.in_ok-leaves.leaves.items (length parents) = rw c.deref.ensures.value at c.in_ok-leaves.ensures.ok in
-        (
+    let leafy : AreLeavesOf parents c.in_ok-leaves.leaves.items (length parents) =
+    rw c.deref.ensures.value at c.in_ok-leaves.ensures.ok in (
       λ e. absurd (false≢true e),
       λ right.
           let chained = chained_from view.width (machine_of view c.args.outputs.now) c.requires.edges.tell both.1 both.0
-              c.in_ok-sizes.sizes.items
+          c.in_ok-sizes.sizes.items
           c.in_ok-sizes.ensures.ok c.in_ok-sizes.ensures.each leafy c.args.leftmost right.0 in
           c.if-not-chains_hold.ensures.1 (rw (c.deref-3.ensures.value, c.deref-4.ensures.value) chained),
     )
@@ -47,7 +51,7 @@ returns-clause-ok g c =
     let a = machine_of view c.args.outputs.now in
     let both = rw c.in-Some.is at c.in_ok-ranks.ensures.yes in
     let leafy : AreLeavesOf p.parents.items c.in_ok-leaves.leaves.items (length p.parents.items) =
-        rw c.deref.ensures.value at c.in_ok-leaves.ensures.ok in
+    rw c.deref.ensures.value at c.in_ok-leaves.ensures.ok in
     let chained = rw (c.deref-3.ensures.value, c.deref-4.ensures.value) at (c.if-not-chains_hold.ensures.0 refl) in
     let sized = c.in_ok-sizes.ensures in
     let len : length p.order.items ≡ c.args.num_states = omega (arith, c.len.ensures, c.if-len-num_states.false) in (

@@ -17,10 +17,12 @@ returns-in_default-clause-ok g c =
     let arr = c.args.array.now in
     let p = c.args.ranks in
     let a = machine_of (g.E.Array.sees arr) c.args.outputs.now in
-    let bad : LeadsToNoRank c.args.leftmost (g.E.Array.sees arr).fail p.order.items = search rules in
-    (λ e. absurd (false≢true e), λ links.
-        absurd (no_rank (g.E.Array.sees arr).width a c.requires.edges.tell c.requires.ranks
-        (λ i u j h. (c.requires.edges.inside i u j h).1) c.args.leftmost bad links))
+    let bad : LeadsToNoRank c.args.leftmost (g.E.Array.sees arr).fail p.order.items = search rules in (
+      λ e. absurd (false≢true e),
+      λ links.
+          absurd (no_rank (g.E.Array.sees arr).width a c.requires.edges.tell c.requires.ranks
+          (λ i u j h. (c.requires.edges.inside i u j h).1) c.args.leftmost bad links),
+    )
 
 pub has_links-requires-clause-trie : goal.has_links-requires-clause-trie
 has_links-requires-clause-trie g c =
@@ -43,7 +45,7 @@ returns-clause-ok g c =
     let each : length fails ≡ length p.order.items = search rules in
     let linked : AreLinkRanks (g.E.Array.sees arr).fail p.order.items fails = search rules in
     let same = links_are_right (g.E.Array.sees arr).width a c.requires.edges.tell c.requires.ranks
-        (λ i u j h. (c.requires.edges.inside i u j h).1) c.args.leftmost
+    (λ i u j h. (c.requires.edges.inside i u j h).1) c.args.leftmost
     c.args.sizes.now c.requires.sized c.requires.sizes c.in_ok-stops.stops.items c.in_ok-stops.ensures.ok c.in_ok-stops.ensures.each fails
-        each linked c.requires.tree in
+    each linked c.requires.tree in
     (λ e. same.0 (c.in_ok-right.ensures.ok.0 e), λ links. c.in_ok-right.ensures.ok.1 (same.1 links))

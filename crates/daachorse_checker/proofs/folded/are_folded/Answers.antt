@@ -16,9 +16,11 @@ pub returns-then-label-from-2 : goal.returns-then-label-from-2
 returns-then-label-from-2 c =
     let m = c.loop-rank.rank in let label = get_or c.args.labels.now m 0 in
     let low : 65 ≤ label = omega (arith, c.if-label-from.true, c.from.ensures) in
-    let high : label ≤ 90 = omega (arith, c.if-label-from-2.true, c.from-then-label-from.ensures) in
-    (λ e. absurd (false≢true e), λ all.
-        absurd (omega (arith, all m (omega (arith, c.loop-rank.auto.rank)) c.loop-rank-test.true, (folded_unit-is label).0 (low, high))))
+    let high : label ≤ 90 = omega (arith, c.if-label-from-2.true, c.from-then-label-from.ensures) in (
+      λ e. absurd (false≢true e),
+      λ all.
+          absurd (omega (arith, all m (omega (arith, c.loop-rank.auto.rank)) c.loop-rank-test.true, (folded_unit-is label).0 (low, high))),
+    )
 
 pub loop-rank-preserved : goal.loop-rank-preserved
 loop-rank-preserved c =

@@ -42,7 +42,7 @@ returns g c =
     let inv = c.loop-m.invariant in (
       λ _. sound t.parents.items t.labels.items t.stops.items t.fails.items r.trie.0 r.trie.1 r.each r.fall
           (λ p _ m pos lt is. subst (λ x. get_or t.fails.items m 0 ≡ right t.parents.items t.labels.items t.stops.items t.fails.items x m
-              (get_or t.labels.items m 0)) is
+          (get_or t.labels.items m 0)) is
           (inv.checked m pos (omega (arith, c.loop-m-test.false, c.len-count.ensures, lt, r.each)) lt)),
       λ _. refl,
     )

@@ -14,9 +14,11 @@ use Rattle.daachorse_array.proofs.trie.Trie.has_links.Goals.{then-above-count, e
 
 pub returns-then-not-links_fall-clause-ok : goal.returns-then-not-links_fall-clause-ok
 returns-then-not-links_fall-clause-ok g c =
-    let t = c.args.self.now in
-    (λ e. absurd (false≢true e), λ links. c.if-not-links_fall.ensures.1
-        (right_falls t.parents.items t.labels.items t.stops.items t.fails.items c.args.alphabet c.requires.trie c.requires.each links))
+    let t = c.args.self.now in (
+      λ e. absurd (false≢true e),
+      λ links. c.if-not-links_fall.ensures.1
+          (right_falls t.parents.items t.labels.items t.stops.items t.fails.items c.args.alphabet c.requires.trie c.requires.each links),
+    )
 
 pub loop-k-init : goal.loop-k-init
 loop-k-init g c =
@@ -30,9 +32,9 @@ loop-k-init g c =
     let zeros : near' ≡ replicate c.args.alphabet 0 = search rules in
     let wide : length near' ≡ c.args.alphabet = ap length zeros ∙ length-replicate c.args.alphabet 0 in
     let at : (k : ℕ) → k < length near' → get_or near' k 0 ≡ 0 = λ k lt. ap (λ xs. get_or xs k 0) zeros
-        ∙ get_or-replicate c.args.alphabet k 0 0 (omega (arith, lt, wide)) in
+    ∙ get_or-replicate c.args.alphabet k 0 0 (omega (arith, lt, wide)) in
     let read : c.index-next.result.now ≡ get_or next c.len-count.result 0 = get_or_read next c.len-count.result c.index-next.result.now
-        (omega (arith, tour.size, count)) c.index-next.ensures 0 in
+    (omega (arith, tour.size, count)) c.index-next.ensures 0 in
     let first : c.index-next.result.now ≡ get_or next n 0 = read ∙ ap (λ i. get_or next i 0) count in
     let size : length saved ≡ length t.parents.items = search rules in
     record {
@@ -43,10 +45,12 @@ loop-k-init g c =
 
 pub returns-then-not-enter-clause-ok : goal.returns-then-not-enter-clause-ok
 returns-then-not-enter-clause-ok g c =
-    let t = c.args.self.now in
-    (λ e. absurd (false≢true e), λ links. c.if-not-enter.ensures.checked.1
-        (right_checked t.parents.items t.labels.items t.stops.items t.fails.items c.args.alphabet c.requires.trie c.requires.each links
-        c.loop-k.next))
+    let t = c.args.self.now in (
+      λ e. absurd (false≢true e),
+      λ links. c.if-not-enter.ensures.checked.1
+          (right_checked t.parents.items t.labels.items t.stops.items t.fails.items c.args.alphabet c.requires.trie c.requires.each links
+          c.loop-k.next),
+    )
 
 pub returns-clause-ok : goal.returns-clause-ok
 returns-clause-ok g c =
@@ -82,11 +86,11 @@ loop-k-preserved g c =
           (c.if-not-links_fall.ensures.0 refl) more (λ z. w.if-above-count.false (c.above-above.ensures ∙ z ∙ sym count))
     ] in
     let read : c.index-next-in-loop-k.result.now ≡ get_or next k.next 0 =
-        get_or_read next k.next c.index-next-in-loop-k.result.now (omega (arith, lt, tour.size)) c.index-next-in-loop-k.ensures 0 in
+    get_or_read next k.next c.index-next-in-loop-k.result.now (omega (arith, lt, tour.size)) c.index-next-in-loop-k.ensures 0 in
     let ens = c.if-not-enter.ensures in
     let step = touring_step c.requires.trie c.requires.each k.invariant.touring tour
     c.enter.new.near.items c.enter.new.saved.items c.if-above-count.other more (ens.checked.0 refl) (ens.near refl) (ens.saved refl)
-        (ens.kept refl) other in
+    (ens.kept refl) other in
     record {
       wide = c.enter.ensures.same ∙ c.retreat.ensures.same ∙ k.invariant.wide;
       size = c.enter.ensures.size ∙ k.invariant.size;
@@ -97,8 +101,11 @@ loop-k-preserved g c =
 pub follows-requires : goal.follows-requires
 follows-requires g c =
     let trie : IsLabelled c.args.self.now.parents.items c.args.self.now.labels.items = (c.args.alphabet, c.requires.trie) in
-    assumption (c.if-not-links_fall.ensures.0 refl, subst (AreStarts c.args.self.now.parents.items)
-        (sym c.deref.ensures.value) c.in_ok-starts.ensures.ok)
+    assumption (
+      c.if-not-links_fall.ensures.0 refl,
+      subst (AreStarts c.args.self.now.parents.items)
+          (sym c.deref.ensures.value) c.in_ok-starts.ensures.ok,
+    )
 
 pub above-above-requires : goal.above-above-requires
 above-above-requires g c =

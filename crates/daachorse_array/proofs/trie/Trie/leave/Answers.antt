@@ -11,8 +11,8 @@ returns-clause-near g c =
     let r = c.requires in
     let inv = c.loop-m.invariant in
     left t.parents.items t.labels.items t.stops.items t.fails.items
-        (length c.args.near.now.items) r.trie r.each r.fall c.args.starts.now r.starts c.args.p r.within c.loop-m.near.items c.loop-m.m
-        (omega (arith, inv.end, c.loop-m-test.false)) inv.is
+    (length c.args.near.now.items) r.trie r.each r.fall c.args.starts.now r.starts c.args.p r.within c.loop-m.near.items c.loop-m.m
+    (omega (arith, inv.end, c.loop-m-test.false)) inv.is
 
 pub loop-m-preserved : goal.loop-m-preserved
 loop-m-preserved g c = grind (arith, elements)

@@ -9,14 +9,14 @@ pub leave-requires-clause-within : goal.leave-requires-clause-within
 leave-requires-clause-within g c =
     let inv = c.loop-here.invariant in
     let lt = not_top c.args.self.now.fails.items c.loop-here.here c.args.to
-        (omega (arith, inv.within, c.requires.each)) inv.above c.loop-here-test.true in
+    (omega (arith, inv.within, c.requires.each)) inv.above c.loop-here-test.true in
     omega (arith, lt, c.requires.each)
 
 pub above-here-requires-clause-within : goal.above-here-requires-clause-within
 above-here-requires-clause-within g c =
     let inv = c.loop-here.invariant in
     not_top c.args.self.now.fails.items c.loop-here.here c.args.to
-        (omega (arith, inv.within, c.requires.each)) inv.above c.loop-here-test.true
+    (omega (arith, inv.within, c.requires.each)) inv.above c.loop-here-test.true
 
 pub loop-here-smaller : goal.loop-here-smaller
 loop-here-smaller g c =
@@ -26,7 +26,7 @@ loop-here-smaller g c =
     let lt : here < length fs = not_top fs here c.args.to (omega (arith, inv.within, c.requires.each)) inv.above c.loop-here-test.true in
     let ups = ups_fall fs here (λ q low _ high. c.requires.fall q low high) here (omega arith) lt in
     shorter (length c.args.self.now.parents.items) here c.above-here.result (omega (arith, lt, c.requires.each))
-        (rw (c.above-here.ensures, ← c.requires.each) ups)
+    (rw (c.above-here.ensures, ← c.requires.each) ups)
 
 pub loop-here-preserved : goal.loop-here-preserved
 loop-here-preserved g c =
@@ -36,8 +36,11 @@ loop-here-preserved g c =
     let here = c.loop-here.here in
     let lt : here < length fs = not_top fs here c.args.to (omega (arith, inv.within, c.requires.each)) inv.above c.loop-here-test.true in
     let ups = ups_fall fs here (λ q low _ high. c.requires.fall q low high) here (omega arith) lt in
-    let most : up fs here ≤ length t.parents.items = elim ups [ inl a ↦ omega (arith, a, lt, c.requires.each) | inr b ↦
-        omega (arith, b, c.requires.each) ] in
+    let most : up fs here ≤ length t.parents.items = elim ups [
+      | inl a ↦ omega (arith, a, lt, c.requires.each)
+      | inr b ↦
+          omega (arith, b, c.requires.each)
+    ] in
     record {
       same = c.leave.ensures.same ∙ inv.same;
       within = rw c.above-here.ensures most;

@@ -17,11 +17,11 @@ loop-starts-preserved g c =
     let items : c.push-in-loop-starts.new.self.items ≡ old ++ c.len-count.result ∷ [] = search rules in
     let small : length old ≤ n = omega (arith, c.loop-starts-test.true, c.len-in-loop-starts.ensures, count) in
     let more : length c.push-in-loop-starts.new.self.items ≡ suc (length old) = ap length items ∙ length_push old c.len-count.result
-        ∙ omega arith in
+    ∙ omega arith in
     let to : AreStartsTo ps (old ++ c.len-count.result ∷ []) (suc (length old)) =
     starts_push ps old (length old) c.len-count.result (omega arith) inv.to (omega (arith, count, c.requires.order.some))
-        (omega (arith, count)) (λ k low high. inv.past k low (omega (arith, count, high)))
-        (λ k low high. absurd (omega (arith, count, low, high))) in
+    (omega (arith, count)) (λ k low high. inv.past k low (omega (arith, count, high)))
+    (λ k low high. absurd (omega (arith, count, low, high))) in
     record {
       to = subst (λ xs. AreStartsTo ps xs (length xs)) (sym items)
           (subst (λ s. AreStartsTo ps (old ++ c.len-count.result ∷ []) s) (sym (length_push old c.len-count.result ∙ omega arith)) to);

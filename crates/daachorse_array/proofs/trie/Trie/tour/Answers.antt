@@ -21,7 +21,7 @@ loop-m-preserved g c =
     let at : c.above-above.result ≡ up fs m = c.above-above.ensures in
     let low : c.above-above.result < length next = omega (arith, at, most, inv.tour.size) in
     let read : c.index.result.now ≡ get_or next c.above-above.result 0 =
-        get_or_read next c.above-above.result c.index.result.now low c.index.ensures 0 in
+    get_or_read next c.above-above.result c.index.result.now low c.index.ensures 0 in
     record {
       is = inv.is;
       tour = rw (add-one m, read, at) (tour_add (up fs) n next m inv.tour lt ups);

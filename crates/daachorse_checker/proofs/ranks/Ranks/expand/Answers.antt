@@ -10,9 +10,9 @@ pub returns-in_default-clause-yes : goal.returns-in_default-clause-yes
 returns-in_default-clause-yes g c e =
     let order = c.args.self.now.order.items in
     let at : c.index-element.result.now ≡ get_or order c.args.rank 0 =
-        get_or_read order c.args.rank c.index-element.result.now c.requires.more c.index-element.ensures 0 in
+    get_or_read order c.args.rank c.index-element.result.now c.requires.more c.index-element.ensures 0 in
     expand_none c.requires.edges.tell c.args.rank c.requires.walk c.requires.more
-        (ap (g.E.Array.sees c.args.array.now).group (sym at) ∙ sym c.in_default.ensures)
+    (ap (g.E.Array.sees c.args.array.now).group (sym at) ∙ sym c.in_default.ensures)
 
 pub returns-then-member-le1-clause-no : goal.returns-then-member-le1-clause-no
 returns-then-member-le1-clause-no g c e =
@@ -29,8 +29,11 @@ returns-then-index-gt0-clause-no g c e =
     let marks = c.loop-member.self.marks.items in
     let inv = c.loop-member.invariant in
     let x = c.in-Some-member.member in
-    let low : x < length marks = omega (arith, next_in c.requires.edges.tell inv.group_of c.in-Some-member.ensures.steps inv.left,
-        inv.left.walk.marks_each) in
+    let low : x < length marks = omega (
+      arith,
+      next_in c.requires.edges.tell inv.group_of c.in-Some-member.ensures.steps inv.left,
+      inv.left.walk.marks_each,
+    ) in
     let mark = get_or_read marks x c.index.result.now low c.index.ensures 0 in
     refuse_marked c.requires.edges.tell inv.group_of c.in-Some-member.ensures.steps inv.left (omega (arith, mark, c.if-index-gt0.true))
 
@@ -54,8 +57,11 @@ loop-member-preserved g c =
     let t = c.loop-member.self in
     let inv = c.loop-member.invariant in
     let x = c.in-Some-member.member in
-    let low : x < length t.marks.items = omega (arith, next_in c.requires.edges.tell inv.group_of c.in-Some-member.ensures.steps inv.left,
-        inv.left.walk.marks_each) in
+    let low : x < length t.marks.items = omega (
+      arith,
+      next_in c.requires.edges.tell inv.group_of c.in-Some-member.ensures.steps inv.left,
+      inv.left.walk.marks_each,
+    ) in
     let mark = get_or_read t.marks.items x c.index.result.now low c.index.ensures 0 in
     let none : get_or t.marks.items x 0 ≡ 0 = omega (arith, mark, c.if-index-gt0.false) in
     let order' : c.push.new.self.items ≡ t.order.items ++ x ∷ [] = search rules in
@@ -63,7 +69,7 @@ loop-member-preserved g c =
     let labels' : c.push-in-loop-member-2.new.self.items ≡ t.labels.items ++ c.unit_at.result ∷ [] = search rules in
     let len : c.len.result ≡ length t.order.items = omega (arith, c.len.ensures) in
     let next = expand_next c.requires.edges.tell inv.group_of c.in-Some-member.ensures.steps inv.left
-        (omega (arith, c.if-member-le1.false)) none c.unit_at.result c.unit_at.ensures in
+    (omega (arith, c.if-member-le1.false)) none c.unit_at.result c.unit_at.ensures in
     record {
       left = rw (order', parents', labels', len) next;
       group_of = ap (λ (xs : List ℕ). (g.E.Array.sees c.args.array.now).group (get_or xs c.args.rank 0)) order'

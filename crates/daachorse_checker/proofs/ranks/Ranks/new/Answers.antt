@@ -7,8 +7,14 @@ use Rattle.daachorse_checker.proofs.ranks.Ranks.new.Goals as goal
 pub overflow_add-next : goal.overflow_add-next
 overflow_add-next g c =
     let walk = c.loop-next.invariant.walk in
-    omega (arith, few_ranks c.requires.edges.tell walk.ranks walk.marks_each, c.num_elements-count.ensures.all,
-        c.num_elements-count.ensures.few, c.loop-next-test.true, c.len.ensures)
+    omega (
+      arith,
+      few_ranks c.requires.edges.tell walk.ranks walk.marks_each,
+      c.num_elements-count.ensures.all,
+      c.num_elements-count.ensures.few,
+      c.loop-next-test.true,
+      c.len.ensures,
+    )
 
 pub loop-next-smaller : goal.loop-next-smaller
 loop-next-smaller g c =
@@ -19,6 +25,6 @@ pub returns-clause-yes : goal.returns-clause-yes
 returns-clause-yes g c =
     let walk = c.loop-next.invariant.walk in
     let done : c.loop-next.next ≡ length c.loop-next.ranks.order.items =
-        omega (arith, walk.within, c.loop-next-test.false, c.len.ensures) in
+    omega (arith, walk.within, c.loop-next-test.false, c.len.ensures) in
     let both = all_ranked c.requires.edges.tell (λ i u j e. (c.requires.edges.inside i u j e).1) (rw done at walk) in
     (both.1, both.0)

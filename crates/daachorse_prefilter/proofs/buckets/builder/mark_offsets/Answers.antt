@@ -5,8 +5,11 @@ use Rattle.daachorse_prefilter.proofs.BucketMarks.{opens_all, opens_first, opens
 use Rattle.daachorse_prefilter.proofs.buckets.builder.mark_offsets.Goals as goal
 
 pub loop-k-init : goal.loop-k-init
-loop-k-init c = record { sized = c.requires.sized; opened = λ y i h.
-    opens_first c.args.pattern.now c.args.bucket y i (is_open c.args.entries.now c.args.mask.now y i) }
+loop-k-init c = record {
+  sized = c.requires.sized;
+  opened = λ y i h.
+      opens_first c.args.pattern.now c.args.bucket y i (is_open c.args.entries.now c.args.mask.now y i);
+}
 
 pub loop-k-preserved : goal.loop-k-preserved
 loop-k-preserved c =

@@ -19,7 +19,7 @@ loop-i-preserved g c =
     let a = (c.type_inv.window (i - 1)).fits in
     let b = (c.type_inv.window i).fits in
     let is : pair ≡ get_or w (i - 1) 0 * 256 + get_or w i 0 = transposed_is (get_or w (i - 1) 0) (get_or w i 0) c.pair_of-pair.result
-        (omega arith) c.pair_of-pair.ensures in
+    (omega arith) c.pair_of-pair.ensures in
     let size : length table ≡ 65536 = c.loop-i.invariant.sized in
     let inside : pair < length table = omega arith in
     let offsets : length counts ≡ length c.args.counts.now = c.loop-i.auto.counts in
@@ -37,5 +37,5 @@ pub returns-clause-marked : goal.returns-clause-marked
 returns-clause-marked g c =
     let which : (c.loop-i.i ≤ length c.args.window.now) ⊎ (c.loop-i.i ≡ 1) =
     elim (cases_lt (length c.args.window.now) 1) as (λ _. (c.loop-i.i ≤ length c.args.window.now)
-        ⊎ (c.loop-i.i ≡ 1)) [ inl h ↦ inr (omega arith) | inr h ↦ inl (omega arith) ] in
+    ⊎ (c.loop-i.i ≡ 1)) [ inl h ↦ inr (omega arith) | inr h ↦ inl (omega arith) ] in
     marked_end c.args.table.now c.loop-i.table c.args.window.now c.loop-i.i (omega arith) which c.loop-i.invariant.marked

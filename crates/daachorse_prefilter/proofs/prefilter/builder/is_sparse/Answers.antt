@@ -29,10 +29,13 @@ returns-in_default c entries size counted =
     let k = c.loop-offset.offset in
     let count = get_or c.args.counts.now k 0 in
     let inside : k < 8 = (let h = c.loop-offset-test.true in let high = c.requires.high in omega arith) in
-    let large : 2 ^ 128 ≤ c.loop-offset.ways * count = elim (cases_lt (c.loop-offset.ways * count) (2 ^ 128)) [ inl less ↦
-        absurd (c.in_default.ensures less) | inr most ↦ most ] in
+    let large : 2 ^ 128 ≤ c.loop-offset.ways * count = elim (cases_lt (c.loop-offset.ways * count) (2 ^ 128)) [
+      | inl less ↦
+          absurd (c.in_default.ensures less)
+      | inr most ↦ most
+    ] in
     sym (too_many entries k c.args.num_pairs c.loop-offset.ways count size c.loop-offset-test.true c.requires.high
-        (c.loop-offset.invariant.product entries size counted) (c.loop-offset.invariant.few entries size counted) (counted k inside) large)
+    (c.loop-offset.invariant.product entries size counted) (c.loop-offset.invariant.few entries size counted) (counted k inside) large)
 
 pub returns : goal.returns
 returns c entries size counted =
@@ -40,4 +43,4 @@ returns c entries size counted =
     let all : c.loop-offset.offset ≡ n = (let h = c.loop-offset-test.false in let e = c.loop-offset.auto.offset-end in omega arith) in
     ap (λ bound. nat_le c.loop-offset.ways bound) (one_shl (16 * n - 4) 128 (omega arith))
     ∙ ap (λ ways. nat_le ways (2 ^ (16 * n - 4))) (c.loop-offset.invariant.product entries size counted
-        ∙ ap (λ k. count_ways entries k) all)
+    ∙ ap (λ k. count_ways entries k) all)

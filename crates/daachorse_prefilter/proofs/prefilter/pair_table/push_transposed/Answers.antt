@@ -13,8 +13,8 @@ pub loop-byte-preserved : goal.loop-byte-preserved
 loop-byte-preserved g c =
     let next : (c.loop-byte.byte + 1) * 256 ≡ c.loop-byte.byte * 256 + 256 = omega arith in
     rw next (push_more c.args.dst.now.items c.loop-byte.dst.items c.extend_from_slice.new.self.items c.args.entries.now
-        c.entries_behind.result (c.loop-byte.byte * 256) 256 c.loop-byte.invariant
-        (omega arith) c.entries_behind.ensures c.in_ok-extend_from_slice.ensures.items)
+    c.entries_behind.result (c.loop-byte.byte * 256) 256 c.loop-byte.invariant
+    (omega arith) c.entries_behind.ensures c.in_ok-extend_from_slice.ensures.items)
 
 pub returns-in_err-extend_from_slice-clause-kept : goal.returns-in_err-extend_from_slice-clause-kept
 returns-in_err-extend_from_slice-clause-kept g c =

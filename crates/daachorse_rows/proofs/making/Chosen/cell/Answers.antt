@@ -23,16 +23,20 @@ index-requires-then-index g c = omega (arith, c.if-index-len.true, c.len.ensures
 pub overflow_mul-result : goal.overflow_mul-result
 overflow_mul-result g c =
     let within : c.args.state < length c.args.self.now.homes.items =
-        omega (arith, c.if-index-len.true, c.len.ensures, c.args.self.now.homes.ok.0) in
+    omega (arith, c.if-index-len.true, c.len.ensures, c.args.self.now.homes.ok.0) in
     let row = row_read c.args.self.now.order.items c.args.self.now.homes.items c.args.state c.index.result.now c.index-then-index.result.now
-        c.requires.rows.homes within c.index.ensures c.if-index.true c.index-then-index.ensures in
-    omega (arith, mul-le c.index-then-index.result.now c.args.width (length c.args.self.now.order.items) c.args.width (omega (arith, row.0))
-        (omega arith), c.requires.rows.few)
+    c.requires.rows.homes within c.index.ensures c.if-index.true c.index-then-index.ensures in
+    omega (
+      arith,
+      mul-le c.index-then-index.result.now c.args.width (length c.args.self.now.order.items) c.args.width (omega (arith, row.0))
+          (omega arith),
+      c.requires.rows.few,
+    )
 
 pub returns-then-index : goal.returns-then-index
 returns-then-index g c =
     let within : c.args.state < length c.args.self.now.homes.items =
-        omega (arith, c.if-index-len.true, c.len.ensures, c.args.self.now.homes.ok.0) in
+    omega (arith, c.if-index-len.true, c.len.ensures, c.args.self.now.homes.ok.0) in
     let row = row_read c.args.self.now.order.items c.args.self.now.homes.items c.args.state c.index.result.now c.index-then-index.result.now
-        c.requires.rows.homes within c.index.ensures c.if-index.true c.index-then-index.ensures in
+    c.requires.rows.homes within c.index.ensures c.if-index.true c.index-then-index.ensures in
     inl (c.index-then-index.result.now, row.0, refl, row.1)

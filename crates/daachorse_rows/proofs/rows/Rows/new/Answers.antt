@@ -33,7 +33,7 @@ pub cell-root-requires : goal.cell-root-requires
 cell-root-requires g c =
     let chosen = (MatchOption-at_some _ _ c.in-Some.chosen c.in-Some.is c.in_ok-chosen.ensures).chosen in
     let named = labelled_by g.A.Automaton.sees g.A.Automaton.labels g.A.Label.RowLabel.number c.args.automaton.now c.args.labels.now
-        c.requires.labels c.requires.few in
+    c.requires.labels c.requires.few in
     record { rows = HaveRows-chosen _ _ _ named chosen; fits = chosen.fits c.root.result c.root.ensures.reached }
 
 pub overflow_cast-count : goal.overflow_cast-count
@@ -44,15 +44,21 @@ overflow_cast-count g c =
 pub returns : goal.returns
 returns g c =
     let A = g.A.Automaton in let a = c.args.automaton.now in let number = g.A.Label.RowLabel.number in
-        let order = c.in-Some.chosen.order.items in
+    let order = c.in-Some.chosen.order.items in
     let width = row_cells (length c.args.labels.now) in
-    let r : RowTable = record { classes = c.in_ok-classes.classes.items; top = c.in_ok-top.top.items; homes = c.in-Some.chosen.homes.items;
-        count = c.len-count.result; width = width; root = c.cell-root.result } in
+    let r : RowTable = record {
+      classes = c.in_ok-classes.classes.items;
+      top = c.in_ok-top.top.items;
+      homes = c.in-Some.chosen.homes.items;
+      count = c.len-count.result;
+      width = width;
+      root = c.cell-root.result;
+    } in
     let seen = labelled A.sees A.labels number (record { automaton = a; labels = map number c.args.labels.now; width = width }) in
     let named = labelled_by A.sees A.labels number a c.args.labels.now c.requires.labels c.requires.few in
     let made = Rows-made g.A.Unit.EdgeLabel.width seen r order (c.len-count.ensures ∙ c.in-Some.chosen.order.ok.0) named c.in_ok-top.ensures
     c.in_ok-classes.ensures (MatchOption-at_some _ _ c.in-Some.chosen c.in-Some.is c.in_ok-chosen.ensures) c.root.result c.cell-root.ensures
-        c.root.ensures.reached c.root.ensures.text g.A.Label.RowLabel.most in
+    c.root.ensures.reached c.root.ensures.text g.A.Label.RowLabel.most in
     record { right = made.0; covered = made.1; closed = made.2; none = λ none. absurd (none-some _ (sym none)) }
 
 pub overflow_cast-width : goal.overflow_cast-width

@@ -7,4 +7,4 @@ use Rattle.daachorse_serializer.proofs.numbers.OptionNonZeroU32Serializable.dese
 pub returns-clause-given : goal.returns-clause-given
 returns-clause-given c =
     ap (over position_from) c.in_ok-number.ensures.given ∙ ap (λ v. Some (v, c.in_ok-number.rest.now))
-        (position_made c.new.result c.in_ok-number.number c.new.ensures)
+    (position_made c.new.result c.in_ok-number.number c.new.ensures)

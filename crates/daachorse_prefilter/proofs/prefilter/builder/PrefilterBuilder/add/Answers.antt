@@ -18,5 +18,8 @@ returns g c patterns added =
     }
 
 pub invariant_of-self : goal.invariant_of-self
-invariant_of-self g c = record { short = (let e = c.min.ensures in omega arith); sized = c.clear_pairs.ensures.sized;
-    counted = c.clear_pairs.ensures.counted }
+invariant_of-self g c = record {
+  short = (let e = c.min.ensures in omega arith);
+  sized = c.clear_pairs.ensures.sized;
+  counted = c.clear_pairs.ensures.counted;
+}

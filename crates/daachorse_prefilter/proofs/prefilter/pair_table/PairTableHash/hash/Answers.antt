@@ -7,5 +7,5 @@ use Rattle.daachorse_prefilter.proofs.prefilter.pair_table.PairTableHash.hash.Go
 pub returns : goal.returns
 returns g c =
     let same : transposed_table c.args.self.now ≡ c.self.inside.items.items = ap transposed_table (sym c.self.view_is)
-        ∙ transposed_table_twice c.self.inside.items.items c.self.invariant in
+    ∙ transposed_table_twice c.self.inside.items.items c.self.invariant in
     rw same c.hash.ensures

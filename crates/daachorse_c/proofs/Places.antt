@@ -12,9 +12,9 @@ use Rattle.daachorse_model.specs.Leftmost.{leftmost_from}
 use Rattle.daachorse_model.specs.Matches.{standard, shifted}
 use Rattle.daachorse_model.specs.Units.{size}
 use Rattle.daachorse_model.proofs.Shifts.{leftmost_from-shifted}
-use Rattle.daachorse_replacing.specs.ByKind.{non_overlapping}
-use Rattle.daachorse_replacing.specs.Replaced.{AreParts}
-use Rattle.daachorse_replacing.proofs.Cuts.{parts_of_bytes, parts_of_text}
+use Rattle.daachorse_streams.specs.ByKind.{non_overlapping}
+use Rattle.daachorse_streams.specs.Replaced.{AreParts}
+use Rattle.daachorse_streams.proofs.Cuts.{parts_of_bytes, parts_of_text}
 use Rattle.daachorse_c.specs.declared.place.Place.{Place}
 use Rattle.daachorse_c.specs.Automata.{Automaton, Bytes, Characters, Reads, dictionary_of, folds_of, kind_of, text_read, unit_of, width_of}
 use Rattle.daachorse_c.specs.Units.{IsTextIn, units_in}

@@ -1,8 +1,8 @@
 -- What a call to replace promises, of joined texts and where each ends, and why it is refused.
 use Rattle.std.specs.Prelude.{◌≡◌, ◌⊎◌, ℕ, ◌-◌, ◌<◌, ◌^◌, List, ◌∷◌, ◌++◌, cond, drop, get_or, length, min, nat_lt, slice_range, take, Option, IsSomeAnd}
 use Rattle.daachorse_model.specs.declared.Match.{Match}
-use Rattle.daachorse_replacing.specs.ByKind.{non_overlapping}
-use Rattle.daachorse_replacing.specs.Replaced.{with_replacements}
+use Rattle.daachorse_streams.specs.ByKind.{non_overlapping}
+use Rattle.daachorse_streams.specs.Replaced.{with_replacements}
 use Rattle.daachorse_c.specs.declared.refusal.Refusal.{Refusal}
 use Rattle.daachorse_c.specs.declared.refusal.Refusal.TheVariants.{NoRoom, WrongPatterns}
 use Rattle.daachorse_c.specs.Automata.{Automaton, Reads, dictionary_of, kind_of, text_read, width_of}

@@ -2,7 +2,7 @@
 
 ghost use Rattle.std.specs.Prelude.{◌≡◌, ◌≢◌, ◌↔◌, ◌≤◌, [], ◌∷◌, false, true, IfNone, IfSome, IsTrue, drop, length, slice_get};
 ghost use Rattle.daachorse_model.specs.declared.MatchKind.TheVariants.{Standard};
-ghost use Rattle.daachorse_replacing.specs.ByKind.{non_overlapping};
+ghost use Rattle.daachorse_streams.specs.ByKind.{non_overlapping};
 ghost use Rattle.daachorse_c.specs.Automata.{dictionary_of, kind_of, text_read, width_of};
 ghost use Rattle.daachorse_c.specs.Held.{haystack_of, searched};
 ghost use Rattle.daachorse_c.specs.Places.{IsBehind, IsPlaceIn, IsStep, StandsAfter, afresh, left_of};

@@ -2,7 +2,7 @@
 
 ghost use Rattle.std.specs.Prelude.{◌≡◌, ◌≢◌, ◌↔◌, [], ◌∷◌, ℕ, List, IsTrue, MatchOption, drop, length, slice_get};
 ghost use Rattle.daachorse_model.specs.Matches.{overlapping};
-ghost use Rattle.daachorse_replacing.specs.ByKind.{non_overlapping};
+ghost use Rattle.daachorse_streams.specs.ByKind.{non_overlapping};
 ghost use Rattle.daachorse_c.specs.Automata.{Reads, dictionary_of, kind_of, text_read, unit_of, width_of};
 ghost use Rattle.daachorse_c.specs.Held.{haystack_of, searched};
 ghost use Rattle.daachorse_c.specs.Places.{IsPlaceIn};

@@ -15,8 +15,8 @@ pub use Rattle.daachorse_array.specs.Lookups
 pub use Rattle.daachorse_patterns.specs.Patterns
 pub use Rattle.daachorse_patterns.specs.declared.settings.Settings
 pub use Rattle.daachorse_prefilter.specs.Places
-pub use Rattle.daachorse_replacing.specs.ByKind
-pub use Rattle.daachorse_replacing.specs.Replaced
+pub use Rattle.daachorse_streams.specs.ByKind
+pub use Rattle.daachorse_streams.specs.Replaced
 pub use Rattle.daachorse_search.specs.Beginnings
 pub use Rattle.daachorse_search.specs.BestScans
 pub use Rattle.daachorse_haystack.specs.Filters

@@ -11,11 +11,11 @@ use Rattle.daachorse_model.specs.Leftmost.{leftmost}
 use Rattle.daachorse_model.specs.Units.{size}
 use Rattle.daachorse_model.proofs.Find.{leftmost_occur}
 use Rattle.daachorse_model.proofs.Suffixes.{size-append}
-use Rattle.daachorse_replacing.specs.Replaced.{AppendsPart}
-use Rattle.daachorse_replacing.specs.ReplacedWith.{IsStopped, MayWriteFor}
-use Rattle.daachorse_replacing.specs.Streams.{IsHeld}
-use Rattle.daachorse_replacing.proofs.HeldLaws.{answered-at, held-behind, refused-before}
-use Rattle.daachorse_replacing.proofs.StandardMatches.{Follows-behind, last_end-push}
+use Rattle.daachorse_streams.specs.Replaced.{AppendsPart}
+use Rattle.daachorse_streams.specs.ReplacedWith.{IsStopped, MayWriteFor}
+use Rattle.daachorse_streams.specs.Streams.{IsHeld}
+use Rattle.daachorse_streams.proofs.HeldLaws.{answered-at, held-behind, refused-before}
+use Rattle.daachorse_streams.proofs.StandardMatches.{Follows-behind, last_end-push}
 use Rattle.daachorse_streams.specs.Replacing.{GoesOut, GoesOutSoFar}
 
 one_of : {A : Type 0} (Q : A → Type 0) (before : List A) (x : A) (after : List A) → All Q (before ++ x ∷ after) → Q x

@@ -12,8 +12,8 @@ use Rattle.daachorse_model.specs.Units.{size}
 use Rattle.daachorse_model.proofs.Lists.{nil_of}
 use Rattle.daachorse_model.proofs.Overlap.{Follows-earlier, leftmost_apart}
 use Rattle.daachorse_model.proofs.Suffixes.{le_or_lt, size-push}
-use Rattle.daachorse_replacing.specs.Streams.{HasNoLonger}
-use Rattle.daachorse_replacing.proofs.StandardMatches.{Follows-from, StartsFrom}
+use Rattle.daachorse_streams.specs.Streams.{HasNoLonger}
+use Rattle.daachorse_streams.proofs.StandardMatches.{Follows-from, StartsFrom}
 
 module _ {V : Type 0} where
   starts_earlier : (r s : ℕ) (ms : List (Match V)) → r ≤ s → StartsFrom s ms → StartsFrom r ms

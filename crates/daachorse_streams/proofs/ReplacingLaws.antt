@@ -21,15 +21,15 @@ use Rattle.daachorse_model.proofs.FoldLaws.{as_read-append, size-as_read}
 use Rattle.daachorse_model.proofs.Suffixes.{size-append}
 use Rattle.daachorse_haystack.specs.ByteSources.{Yields_append}
 use Rattle.daachorse_haystack.specs.Sources.{IsReady}
-use Rattle.daachorse_replacing.specs.Replaced.{AppendsPart}
-use Rattle.daachorse_replacing.specs.ReplacedWith.{IsReplaced, IsReplacedSoFar, IsStopped}
-use Rattle.daachorse_replacing.specs.Streams.{FailsWith, GoesOutSettled, HasNoLonger, IsAtWholeEnd, IsHeld, IsStreamed, IsStreamedSoFar, block}
-use Rattle.daachorse_replacing.proofs.HeldLaws.{held-back, held-count, held-first, held-more, held-past, held-still, held-whole, refused-whole, refused-within}
-use Rattle.daachorse_replacing.proofs.LeadsOn.{so_far_nothing}
-use Rattle.daachorse_replacing.proofs.GaveUnitsLaws.{GaveUnits, gave-first}
+use Rattle.daachorse_streams.specs.Replaced.{AppendsPart}
+use Rattle.daachorse_streams.specs.ReplacedWith.{IsReplaced, IsReplacedSoFar, IsStopped}
+use Rattle.daachorse_streams.specs.Streams.{FailsWith, GoesOutSettled, HasNoLonger, IsAtWholeEnd, IsHeld, IsStreamed, IsStreamedSoFar, block}
+use Rattle.daachorse_streams.proofs.HeldLaws.{held-back, held-count, held-first, held-more, held-past, held-still, held-whole, refused-whole, refused-within}
+use Rattle.daachorse_streams.proofs.LeadsOn.{so_far_nothing}
+use Rattle.daachorse_streams.proofs.GaveUnitsLaws.{GaveUnits, gave-first}
 use Rattle.daachorse_streams.specs.Replacing.{GoesOut, GoesOutSoFar}
 use Rattle.daachorse_streams.proofs.LateMatches.{late_matches}
-use Rattle.daachorse_replacing.proofs.StandardMatches.{Follows-behind}
+use Rattle.daachorse_streams.proofs.StandardMatches.{Follows-behind}
 
 module _ {V P O F S U : Type 0} (bytes : P → List ℕ) (taken : O → Option (List ℕ)) (step : F → Match V → P → MutBor O → Result (Unit {0}) Error → MutBor O → F → Type 0) (first : F) (old : O)
     (can : S → Type 0) (steps : S → Option U → S → Type 0) (left : S → Count) (failure : S → Option Error) (unit : U → ℕ) (form : U → List ℕ) (width : ℕ → ℕ)

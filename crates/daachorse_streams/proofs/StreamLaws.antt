@@ -14,7 +14,7 @@ use Rattle.daachorse_model.specs.Leftmost.{leftmost, leftmost_from}
 use Rattle.daachorse_model.proofs.Links.{none_before}
 use Rattle.daachorse_model.proofs.Occurrences.{occurs_length}
 use Rattle.daachorse_model.proofs.Suffixes.{size-append, size-push}
-use Rattle.daachorse_replacing.specs.Streams.{HasNoLonger}
+use Rattle.daachorse_streams.specs.Streams.{HasNoLonger}
 use Rattle.daachorse_search.specs.BestScans.{HasNoLongerKey}
 use Rattle.daachorse_search.specs.Views.{AutomatonView, IsLeftmostView}
 use Rattle.daachorse_streams.specs.declared.scan.Pending.{Pending}

@@ -1,8 +1,12 @@
 pub mod Advancing
+pub mod ByKind
 pub mod LeftmostReading
 pub mod Marked
+pub mod Replaced
+pub mod ReplacedWith
 pub mod Replacing
 pub mod Scans
 pub mod Searching
 pub mod Standings
 pub mod Streamed
+pub mod Streams

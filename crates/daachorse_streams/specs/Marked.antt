@@ -1,7 +1,7 @@
 -- What the leftmost streams over one automaton share, and how they begin.
 use Rattle.std.specs.Prelude.{◌≡◌, ℕ, Bool, false, List, [], Option, Some}
 use Rattle.std.specs.declared.io.BufReader.{BufReader}
-use Rattle.daachorse_replacing.specs.Streams.{IsLongest}
+use Rattle.daachorse_streams.specs.Streams.{IsLongest}
 use Rattle.daachorse_search.specs.Readers.{IsInBlocks, Reading, to_read}
 use Rattle.daachorse_search.specs.Views.{AutomatonView, HasMarks}
 use Rattle.daachorse_streams.specs.declared.stream_marks.StreamMarks.{StreamMarks}

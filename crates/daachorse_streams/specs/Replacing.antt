@@ -3,8 +3,8 @@ use Rattle.std.specs.Prelude.{◌≡◌, ℕ, List, ◌++◌, Option, Result}
 use Rattle.std.specs.Borrow.{MutBor}
 use Rattle.daachorse_model.specs.declared.Match.{Match}
 use Rattle.daachorse_model.specs.Matches.{last_end}
-use Rattle.daachorse_replacing.specs.ReplacedWith.{IsStopped}
-use Rattle.daachorse_replacing.specs.Streams.{IsHeld}
+use Rattle.daachorse_streams.specs.ReplacedWith.{IsStopped}
+use Rattle.daachorse_streams.specs.Streams.{IsHeld}
 
 module _ {V P O E F : Type 0} (bytes : P → List ℕ) (taken : O → Option (List ℕ)) (step : F → Match V → P → MutBor O → Result (Unit {0}) E → MutBor O → F → Type 0) where
   -- More matches went out of the bytes held, and those left begin at the end of the last. Each text that was held so behind the matches done is held so behind all that are given.

@@ -7,7 +7,7 @@ use Rattle.daachorse_model.specs.Leftmost.{leftmost}
 use Rattle.daachorse_model.specs.Prefixes.{IsKey}
 use Rattle.daachorse_model.specs.Units.{size}
 use Rattle.daachorse_haystack.specs.Filters.{count_passing}
-use Rattle.daachorse_replacing.specs.Streams.{IsLongest}
+use Rattle.daachorse_streams.specs.Streams.{IsLongest}
 use Rattle.daachorse_search.specs.Views.{AutomatonView}
 
 pub record LeftmostStreamed (V A : Type 0) : Type 0 where

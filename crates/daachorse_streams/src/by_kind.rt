@@ -7,11 +7,11 @@ ghost use Rattle.daachorse_model.specs.Matches.{standard};
 ghost use Rattle.daachorse_model.specs.Units.{size};
 ghost use Rattle.daachorse_search.specs.Views.{IsLeftmostView, IsStandard};
 
+use crate::listed::Listed;
 use daachorse_core::Match;
 use daachorse_core::edge_label::EdgeLabel;
 use daachorse_haystack::filter::Filter;
 use daachorse_haystack::haystack::Haystack;
-use daachorse_replacing::listed::Listed;
 use daachorse_search::automaton::Automaton;
 use daachorse_search::find::find_in;
 use daachorse_search::leftmost::LeftmostMatches;

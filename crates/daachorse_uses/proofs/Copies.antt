@@ -5,7 +5,7 @@ use Rattle.std.specs.Io.KnownBytes.{Appends}
 use Rattle.std.specs.declared.io.Error.{Error}
 use Rattle.daachorse_model.specs.declared.Match.{Match}
 use Rattle.daachorse_model.specs.Dictionary.{Dictionary}
-use Rattle.daachorse_replacing.proofs.Appended.{IsReplaced-exact}
+use Rattle.daachorse_streams.proofs.Appended.{IsReplaced-exact}
 use Rattle.daachorse_uses.specs.Copies.{CopiesRead, IsCopiedWith, WritesText}
 
 module _ {V O : Type 0} (K : Dictionary V) (known : Option (List ℕ)) (matches : List ℕ → List (Match V))

@@ -2,8 +2,8 @@
 use Rattle.std.proofs.Common.{ℕ, inl, inr, List, [], ◌∷◌, ◌++◌, Option, Result, Ok, Err}
 use Rattle.std.specs.Borrow.{MutBor}
 use Rattle.daachorse_model.specs.declared.Match.{Match}
-use Rattle.daachorse_replacing.specs.ReplacedWith.{IsReplacedFrom, IsReplacedSoFarFrom, IsStoppedFrom, MayWrite}
-use Rattle.daachorse_replacing.specs.Streams.{IsHeldBack, ReplacesRead}
+use Rattle.daachorse_streams.specs.ReplacedWith.{IsReplacedFrom, IsReplacedSoFarFrom, IsStoppedFrom, MayWrite}
+use Rattle.daachorse_streams.specs.Streams.{IsHeldBack, ReplacesRead}
 
 module _ {V P O E F G : Type 0} (bytes : P → List ℕ) (taken : O → Option (List ℕ))
     (step : F → Match V → P → MutBor O → Result (Unit {0}) E → MutBor O → F → Type 0)

@@ -9,9 +9,9 @@ use Rattle.daachorse_model.specs.Dictionary.{Dictionary}
 use Rattle.daachorse_model.specs.Folding.{as_read}
 use Rattle.daachorse_model.specs.Units.{byte_width}
 use Rattle.daachorse_bytewise.specs.Automata.{Automaton, dictionary_of, kind_of}
-use Rattle.daachorse_replacing.specs.ByKind.{non_overlapping}
-use Rattle.daachorse_replacing.specs.Replaced.{with_replacements}
-use Rattle.daachorse_replacing.specs.Streams.{HasNoLonger, ReplacesRead}
+use Rattle.daachorse_streams.specs.ByKind.{non_overlapping}
+use Rattle.daachorse_streams.specs.Replaced.{with_replacements}
+use Rattle.daachorse_streams.specs.Streams.{HasNoLonger, ReplacesRead}
 
 -- the matches in bytes that the automaton finds and that do not overlap
 abbrev pub matches_of : Automaton ℕ → List ℕ → List (Match ℕ)

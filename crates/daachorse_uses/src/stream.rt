@@ -8,7 +8,7 @@ ghost use Rattle.daachorse_model.specs.Matches.{overlapping, standard};
 ghost use Rattle.daachorse_model.specs.Units.{byte_width, char_width};
 ghost use Rattle.daachorse_bytewise.specs.Automata as bytes;
 ghost use Rattle.daachorse_charwise.specs.Automata as characters;
-ghost use Rattle.daachorse_replacing.specs.Replaced.{AppendsBeginning};
+ghost use Rattle.daachorse_streams.specs.Replaced.{AppendsBeginning};
 ghost use Rattle.daachorse_search.specs.Readers.{IsLasting};
 ghost use Rattle.daachorse_uses.specs.Copies.{CopiesRead, IsCopiedWith, in_brackets, matches_of};
 ghost use Rattle.daachorse_uses.specs.Found.{IsCountRead, IsFirstGiven, IsFirstRead};
@@ -18,7 +18,7 @@ use daachorse::{
     CharwiseDoubleArrayAhoCorasick, DoubleArrayAhoCorasick, DoubleArrayAhoCorasickBuilder, Match,
     MatchKind, Result,
 };
-use daachorse_replacing::appending::write_whole;
+use daachorse_streams::appending::write_whole;
 use std::alloc::Global;
 use std::io::{self, BufRead, Read, Write};
 

@@ -5,17 +5,17 @@ ghost use Rattle.daachorse_core.specs.Refusals.{IsOutOfMemory};
 ghost use Rattle.daachorse_model.specs.declared.MatchKind.TheVariants.{Standard};
 ghost use Rattle.daachorse_model.specs.Folding.{as_read};
 ghost use Rattle.daachorse_model.specs.Units.{byte_width};
-ghost use Rattle.daachorse_replacing.specs.ByKind.{non_overlapping};
-ghost use Rattle.daachorse_replacing.specs.Streams.{HasNoLonger, IsLongest, ReplacesRead};
+ghost use Rattle.daachorse_streams.specs.ByKind.{non_overlapping};
+ghost use Rattle.daachorse_streams.specs.Streams.{HasNoLonger, IsLongest, ReplacesRead};
 ghost use Rattle.daachorse_bytewise.specs.Automata.{dictionary_of, kind_of};
 
 use super::DoubleArrayAhoCorasick;
 use super::accelerated::Accelerated;
 use daachorse_core::errors::Result;
 use daachorse_core::{Match, MatchKind};
-use daachorse_replacing::streaming::replace_from;
 use daachorse_search::reader::{ReadBytes, in_blocks};
-use daachorse_streams::replacing::replace_leftmost_skipping;
+use daachorse_streams::replacing_leftmost::replace_leftmost_skipping;
+use daachorse_streams::replacing_standard::replace_from;
 use std::alloc::Allocator;
 use std::io::{self, Read, Write};
 

@@ -5,8 +5,8 @@ ghost use Rattle.std.specs.Str.{IsCharBoundary, chars};
 ghost use Rattle.daachorse_model.specs.Folding.{as_read};
 ghost use Rattle.daachorse_model.specs.Units.{char_width};
 ghost use Rattle.daachorse_model.specs.Matches.{overlapping};
-ghost use Rattle.daachorse_replacing.specs.ByKind.{non_overlapping};
-ghost use Rattle.daachorse_replacing.specs.Replaced.{AreParts};
+ghost use Rattle.daachorse_streams.specs.ByKind.{non_overlapping};
+ghost use Rattle.daachorse_streams.specs.Replaced.{AreParts};
 
 use super::AhoCorasick;
 use super::iter::MatchesByKind;

@@ -1,5 +1,5 @@
 -- What the search gives first is the first of all its matches.
-use Rattle.daachorse_replacing.proofs.FirstMatches.{first_of_search}
+use Rattle.daachorse_streams.proofs.FirstMatches.{first_of_search}
 use Rattle.daachorse_streams.proofs.by_kind.first_in.Goals as goal
 
 pub returns : goal.returns

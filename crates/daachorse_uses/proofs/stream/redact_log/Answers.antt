@@ -1,6 +1,6 @@
 -- The automaton is of the secrets, and what it copies is a copy without them.
 use Rattle.std.proofs.Common.{codes, inr}
-use Rattle.daachorse_replacing.specs.Replaced.{AppendsBeginning}
+use Rattle.daachorse_streams.specs.Replaced.{AppendsBeginning}
 use Rattle.daachorse_uses.specs.Secrets.{dictionary_in, secrets_found}
 use Rattle.daachorse_uses.proofs.Copies.{copied}
 use Rattle.daachorse_uses.proofs.Secrets.{copies_secrets}

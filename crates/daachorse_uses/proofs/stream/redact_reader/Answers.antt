@@ -2,7 +2,7 @@
 use Rattle.std.proofs.Common.{rules, codes}
 use Rattle.std.specs.Prelude.{⊤}
 use Rattle.daachorse_bytewise.specs.Automata.{dictionary_of}
-use Rattle.daachorse_replacing.specs.Replaced.{AppendsBeginning}
+use Rattle.daachorse_streams.specs.Replaced.{AppendsBeginning}
 use Rattle.daachorse_uses.specs.Copies.{CopiesRead, WritesText, matches_of}
 use Rattle.daachorse_uses.proofs.Copies.{copied}
 use Rattle.daachorse_uses.proofs.Weaker.{replaces_read}

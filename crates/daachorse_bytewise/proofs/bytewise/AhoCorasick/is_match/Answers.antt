@@ -3,7 +3,7 @@ use Rattle.std.proofs.Common.{◌≢◌, ◌↔◌, IsTrue, [], sym, subst}
 use Rattle.daachorse_model.specs.Folding.{as_read}
 use Rattle.daachorse_model.specs.Matches.{overlapping}
 use Rattle.daachorse_model.specs.Units.{byte_width}
-use Rattle.daachorse_replacing.proofs.FirstMatches.{first_by_kind}
+use Rattle.daachorse_streams.proofs.FirstMatches.{first_by_kind}
 use Rattle.daachorse_bytewise.proofs.bytewise.AhoCorasick.is_match.Goals as goal
 
 pub returns : goal.returns

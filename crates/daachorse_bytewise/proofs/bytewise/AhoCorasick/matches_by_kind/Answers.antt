@@ -2,8 +2,8 @@
 use Rattle.std.proofs.Common.{◌∙◌}
 use Rattle.daachorse_model.specs.Folding.{as_read}
 use Rattle.daachorse_model.specs.Units.{byte_width}
-use Rattle.daachorse_replacing.proofs.Cuts.{parts_of_bytes}
-use Rattle.daachorse_replacing.proofs.FirstMatches.{leftmost_named, standard_named}
+use Rattle.daachorse_streams.proofs.Cuts.{parts_of_bytes}
+use Rattle.daachorse_streams.proofs.FirstMatches.{leftmost_named, standard_named}
 use Rattle.daachorse_bytewise.proofs.bytewise.AhoCorasick.matches_by_kind.Goals as goal
 
 pub returns-in-Standard : goal.returns-in-Standard

@@ -2,8 +2,8 @@
 use Rattle.std.proofs.Common.{ℕ, ◌≤◌, List, ◌++◌, drop, length, slice_range, sym, ap, ◌∙◌, subst, arith}
 use Rattle.std.proofs.lemmas.List.{take_rest}
 use Rattle.daachorse_model.specs.declared.Match.{Match}
-use Rattle.daachorse_replacing.specs.Replaced.{AreParts, with_replacements_from}
-use Rattle.daachorse_replacing.proofs.Cuts.{parts_here}
+use Rattle.daachorse_streams.specs.Replaced.{AreParts, with_replacements_from}
+use Rattle.daachorse_streams.proofs.Cuts.{parts_here}
 use Rattle.daachorse_c.specs.Automata.{Reads}
 use Rattle.daachorse_c.specs.Held.{haystack_of, searched}
 use Rattle.daachorse_c.specs.Places.{left_of}

@@ -1,6 +1,6 @@
 -- What comes before the place is put in front, with its matches replaced, and what comes behind it is left.
 use Rattle.std.proofs.Common.{◌≤◌, length}
-use Rattle.daachorse_replacing.specs.Replaced.{AreParts, with_replacements_from}
+use Rattle.daachorse_streams.specs.Replaced.{AreParts, with_replacements_from}
 use Rattle.daachorse_c.specs.Held.{haystack_of, searched}
 use Rattle.daachorse_c.specs.Places.{IsPlaceIn, left_of}
 use Rattle.daachorse_c.specs.Replacing.{replaced_by, replacement}

@@ -4,7 +4,7 @@ use Rattle.std.specs.Str.{chars}
 use Rattle.daachorse_model.specs.Folding.{as_read}
 use Rattle.daachorse_model.specs.Matches.{overlapping}
 use Rattle.daachorse_model.specs.Units.{char_width}
-use Rattle.daachorse_replacing.proofs.FirstMatches.{first_by_kind}
+use Rattle.daachorse_streams.proofs.FirstMatches.{first_by_kind}
 use Rattle.daachorse_charwise.proofs.charwise.AhoCorasick.is_match.Goals as goal
 
 pub returns : goal.returns

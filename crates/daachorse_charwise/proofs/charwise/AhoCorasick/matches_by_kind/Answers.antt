@@ -3,8 +3,8 @@ use Rattle.std.proofs.Common.{◌∙◌}
 use Rattle.std.specs.Str.{chars}
 use Rattle.daachorse_model.specs.Folding.{as_read}
 use Rattle.daachorse_model.specs.Units.{char_width}
-use Rattle.daachorse_replacing.proofs.Cuts.{parts_of_text}
-use Rattle.daachorse_replacing.proofs.FirstMatches.{leftmost_named, standard_named}
+use Rattle.daachorse_streams.proofs.Cuts.{parts_of_text}
+use Rattle.daachorse_streams.proofs.FirstMatches.{leftmost_named, standard_named}
 use Rattle.daachorse_charwise.proofs.charwise.AhoCorasick.matches_by_kind.Goals as goal
 
 pub returns-in-Standard : goal.returns-in-Standard

@@ -1,6 +1,6 @@
 -- What went to the end of nothing is all that is there, and the matches are those of the kind's search.
 use Rattle.std.proofs.Common.{◌++◌, map, sym, ap, ◌∙◌}
-use Rattle.daachorse_replacing.specs.Replaced.{with_pieces}
+use Rattle.daachorse_streams.specs.Replaced.{with_pieces}
 use Rattle.daachorse_charwise.proofs.charwise.AhoCorasick.replace_all.Goals as goal
 
 pub returns-clause-ok : goal.returns-clause-ok

@@ -3,7 +3,7 @@ use Rattle.std.proofs.Common.{ap, ◌∙◌, subst}
 use Rattle.std.specs.Prelude.{IfOk}
 use Rattle.std.proofs.lemmas.Result.{IfOk-weaker}
 use Rattle.daachorse_model.specs.Units.{byte_width}
-use Rattle.daachorse_replacing.specs.Streams.{IsLongest}
+use Rattle.daachorse_streams.specs.Streams.{IsLongest}
 use Rattle.daachorse_bytewise.specs.Automata.{Automaton, dictionary_of}
 use Rattle.daachorse_bytewise.proofs.bytewise.streaming.DoubleArrayAhoCorasick+V+A.longest_pattern.Goals as goal
 

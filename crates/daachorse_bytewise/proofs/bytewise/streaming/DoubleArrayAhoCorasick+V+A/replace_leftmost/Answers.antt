@@ -13,8 +13,8 @@ use Rattle.daachorse_model.specs.Units.{byte_width}
 use Rattle.daachorse_haystack.specs.Filters.{IsSoundFor}
 use Rattle.daachorse_prefilter.specs.Asked.{lets_pass}
 use Rattle.daachorse_prefilter.specs.Buckets.{may_begin}
-use Rattle.daachorse_replacing.specs.ByKind.{non_overlapping}
-use Rattle.daachorse_replacing.proofs.ReadLaws.{longest-least, non_overlapping_apart, read-nothing, replaces-bytes}
+use Rattle.daachorse_streams.specs.ByKind.{non_overlapping}
+use Rattle.daachorse_streams.proofs.ReadLaws.{longest-least, non_overlapping_apart, read-nothing, replaces-bytes}
 use Rattle.daachorse_bytewise_states.specs.Parts.{Parts, content}
 use Rattle.daachorse_bytewise_states.specs.Valid.{sees}
 use Rattle.daachorse_streams.specs.Marked.{IsMarkedFor}

@@ -10,9 +10,9 @@ use Rattle.daachorse_model.specs.Folding.{as_read}
 use Rattle.daachorse_model.specs.Matches.{standard}
 use Rattle.daachorse_model.specs.Units.{char_width}
 use Rattle.daachorse_rows.specs.Rows.{Rowed}
-use Rattle.daachorse_replacing.specs.ByKind.{non_overlapping}
-use Rattle.daachorse_replacing.specs.Streams.{HasNoLonger, IsLongest}
-use Rattle.daachorse_replacing.proofs.ReadLaws.{longest-least, non_overlapping_apart, read-nothing, replaces-characters}
+use Rattle.daachorse_streams.specs.ByKind.{non_overlapping}
+use Rattle.daachorse_streams.specs.Streams.{HasNoLonger, IsLongest}
+use Rattle.daachorse_streams.proofs.ReadLaws.{longest-least, non_overlapping_apart, read-nothing, replaces-characters}
 use Rattle.daachorse_charwise_states.specs.Parts.{Parts, content}
 use Rattle.daachorse_charwise.specs.Accelerated.{rowed_states}
 use Rattle.daachorse_charwise.specs.Automata.{Automaton, dictionary_of, kind_of}

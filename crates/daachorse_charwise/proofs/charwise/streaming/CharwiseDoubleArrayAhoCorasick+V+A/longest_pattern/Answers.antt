@@ -3,7 +3,7 @@ use Rattle.std.proofs.Common.{subst, ap, ◌∙◌}
 use Rattle.std.specs.Prelude.{IfOk}
 use Rattle.std.proofs.lemmas.Result.{IfOk-weaker}
 use Rattle.daachorse_model.specs.Units.{char_width}
-use Rattle.daachorse_replacing.specs.Streams.{IsLongest}
+use Rattle.daachorse_streams.specs.Streams.{IsLongest}
 use Rattle.daachorse_charwise.specs.Automata.{Automaton, dictionary_of}
 use Rattle.daachorse_charwise.proofs.charwise.streaming.CharwiseDoubleArrayAhoCorasick+V+A.longest_pattern.Goals as goal
 

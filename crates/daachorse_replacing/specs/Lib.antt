@@ -1,4 +1,0 @@
-pub mod ByKind
-pub mod Replaced
-pub mod ReplacedWith
-pub mod Streams

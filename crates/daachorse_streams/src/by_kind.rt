@@ -7,7 +7,6 @@ ghost use Rattle.daachorse_model.specs.Matches.{standard};
 ghost use Rattle.daachorse_model.specs.Units.{size};
 ghost use Rattle.daachorse_search.specs.Views.{IsLeftmostView, IsStandard};
 
-use crate::listed::Listed;
 use daachorse_core::Match;
 use daachorse_core::edge_label::EdgeLabel;
 use daachorse_haystack::filter::Filter;
@@ -113,23 +112,6 @@ impl<
             Search::Leftmost(matches) => matches.next(),
         }
     }
-}
-
-impl<
-    U: EdgeLabel,
-    V: Copy,
-    W: Stepwise<V, Unit = U>,
-    L: Automaton<V, Unit = U>,
-    H: Haystack<U>,
-    F: Filter<U, H>,
-> Listed<V> for MatchesByKind<U, V, W, L, H, F> {
-    ghost left = { λ left. left };
-
-    ghost can = { λ left. tt };
-
-    ghost ends = { λ left. tt };
-
-    ghost takes_first = { λ left r later h. h };
 }
 
 /// The first match of the standard search in a haystack. The search is not moved.

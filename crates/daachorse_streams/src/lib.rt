@@ -9,7 +9,6 @@ pub mod keep;
 pub mod leftmost_from_reader;
 pub mod leftmost_standing;
 pub mod leftmost_stream;
-pub mod listed;
 pub mod piece;
 pub mod replacing;
 pub mod replacing_leftmost;

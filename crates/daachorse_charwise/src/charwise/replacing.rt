@@ -42,7 +42,7 @@ impl<S: Drop> AhoCorasick<S> {
     {
         let mut out = String::new(alloc);
         let matches = self.matches_by_kind(haystack);
-        replace::<_, _, _, F, _, String<B>>(haystack, matches, &mut out, replacement)?;
+        replace::<_, _, _, _, _, _, _, F, _, String<B>>(haystack, matches, &mut out, replacement)?;
         Ok(out)
     }
 
@@ -65,7 +65,7 @@ impl<S: Drop> AhoCorasick<S> {
             (AppendsBeginning (W.contents out.old) (W.contents out.new))) }
     {
         let matches = self.matches_by_kind(haystack);
-        replace::<_, _, _, F, W, ToWriter>(haystack, matches, out, replacement)
+        replace::<_, _, _, _, _, _, _, F, W, ToWriter>(haystack, matches, out, replacement)
     }
 
     /// Appends the haystack to `out`, and in place of each match what `write` appends for it.
@@ -86,7 +86,7 @@ impl<S: Drop> AhoCorasick<S> {
         ensures beginning { OnErr result (IsReplacedSoFar (λ s. s.now) O.taken haystack.entry.now F.step (non_overlapping (S.kind self.entry.now) char_width (S.dictionary self.entry.now) (as_read (S.folds self.entry.now) (chars haystack.entry.now))) write out.old out.new) }
     {
         let matches = self.matches_by_kind(haystack);
-        replace_with::<_, _, _, O, O, F>(haystack, matches, out, write)
+        replace_with::<_, _, _, _, _, _, _, O, O, F>(haystack, matches, out, write)
     }
 
     /// Does what [`Self::replace_all_with`] does with a writer, in as many writes as it needs. The
@@ -103,6 +103,6 @@ impl<S: Drop> AhoCorasick<S> {
         ensures beginning { OnErr result (IsReplacedSoFar (λ s. s.now) W.contents haystack.entry.now F.step (non_overlapping (S.kind self.entry.now) char_width (S.dictionary self.entry.now) (as_read (S.folds self.entry.now) (chars haystack.entry.now))) write out.old out.new) }
     {
         let matches = self.matches_by_kind(haystack);
-        replace_with::<_, _, _, W, ToWriter, F>(haystack, matches, out, write)
+        replace_with::<_, _, _, _, _, _, _, W, ToWriter, F>(haystack, matches, out, write)
     }
 }

@@ -1,5 +1,36 @@
 -- What is left of a search behind what it found.
-use Rattle.std.proofs.Common.{◌≡◌, ◌≢◌, ℕ, ◌+◌, ◌<◌, ◌≤◌, inl, inr, Bool, true, false, cond, List, [], ◌∷◌, ◌++◌, map, drop, length, Option, None, Some, refl, sym, ap, ◌∙◌, add-zero, add_assoc, subst, arith}
+use Rattle.std.proofs.Common.{
+  ◌≡◌,
+  ◌≢◌,
+  ℕ,
+  ◌+◌,
+  ◌<◌,
+  ◌≤◌,
+  inl,
+  inr,
+  Bool,
+  true,
+  false,
+  cond,
+  List,
+  [],
+  ◌∷◌,
+  ◌++◌,
+  map,
+  drop,
+  length,
+  Option,
+  None,
+  Some,
+  refl,
+  sym,
+  ap,
+  ◌∙◌,
+  add-zero,
+  add_assoc,
+  subst,
+  arith,
+}
 use Rattle.std.specs.Prelude.{IfNone, slice_get}
 use Rattle.std.specs.Str.{IsCharBoundary}
 use Rattle.std.proofs.lemmas.Bool.{cases_lt}
@@ -41,10 +72,13 @@ none_weaker (Some x) P Q f h = tt
 
 module _ (width : ℕ → ℕ) (broad : (u : ℕ) → 0 < width u) (K : Dictionary ℕ) where
   -- what is found from a place on is what is found that begins there, so much further on
-  from_place : (kind : MatchKind) (at : ℕ) (w : List ℕ) → found_from width K kind at false w ≡ map (shifted at) (non_overlapping kind width K w)
+  from_place : (kind : MatchKind) (at : ℕ) (w : List ℕ)
+      → found_from width K kind at false w ≡ map (shifted at) (non_overlapping kind width K w)
   from_place Standard at w = refl
-  from_place LeftmostLongest at w = ap (λ n. leftmost_from width K n 0 false w) (sym (add-zero at)) ∙ leftmost_from-shifted width K at 0 0 false w
-  from_place LeftmostFirst at w = ap (λ n. leftmost_from width K n 0 false w) (sym (add-zero at)) ∙ leftmost_from-shifted width K at 0 0 false w
+  from_place LeftmostLongest at w =
+      ap (λ n. leftmost_from width K n 0 false w) (sym (add-zero at)) ∙ leftmost_from-shifted width K at 0 0 false w
+  from_place LeftmostFirst at w =
+      ap (λ n. leftmost_from width K n 0 false w) (sym (add-zero at)) ∙ leftmost_from-shifted width K at 0 0 false w
 
   -- m was found first in w, which begins at the place, and then these: what it ends, and what follows it
   pub record Continues (kind : MatchKind) (at : ℕ) (w : List ℕ) (m : Match ℕ) (ms : List (Match ℕ)) : Type 0 where
@@ -57,7 +91,8 @@ module _ (width : ℕ → ℕ) (broad : (u : ℕ) → 0 < width u) (K : Dictiona
     pub empty : m.end ≤ m.start → (u : ℕ) (more : List ℕ) → rest ≡ u ∷ more → ms ≡ found_from width K kind (m.end + width u) false more
     pub last : m.end ≤ m.start → rest ≡ [] → ms ≡ []
 
-  standard_continues : (at : ℕ) (w : List ℕ) (m : Match ℕ) (ms : List (Match ℕ)) → standard width K w ≡ m ∷ ms → Continues Standard at w (shifted at m) (map (shifted at) ms)
+  standard_continues : (at : ℕ) (w : List ℕ) (m : Match ℕ) (ms : List (Match ℕ)) → standard width K w ≡ m ∷ ms
+      → Continues Standard at w (shifted at m) (map (shifted at) ms)
   standard_continues at w m ms e =
       let b = follows_first width broad K w m ms e in
       record {
@@ -73,14 +108,35 @@ module _ (width : ℕ → ℕ) (broad : (u : ℕ) → 0 < width u) (K : Dictiona
         last = λ le is. ap (map (shifted at)) (b.last (omega (arith, le)) is);
       }
 
-  continues : (kind : MatchKind) (at : ℕ) (w : List ℕ) (m : Match ℕ) (ms : List (Match ℕ)) → non_overlapping kind width K w ≡ m ∷ ms → Continues kind at w (shifted at m) (map (shifted at) ms)
+  continues : (kind : MatchKind) (at : ℕ) (w : List ℕ) (m : Match ℕ) (ms : List (Match ℕ)) → non_overlapping kind width K w ≡ m ∷ ms
+      → Continues kind at w (shifted at m) (map (shifted at) ms)
   continues Standard at w m ms e = standard_continues at w m ms e
   continues LeftmostLongest at w m ms e =
-      let b = behind width broad K at false w (shifted at m) (map (shifted at) ms) (from_place LeftmostLongest at w ∙ ap (map (shifted at)) e) in
-      record { passed = b.passed; rest = b.rest; splits = b.splits; order = b.order; end = b.end; nonempty = b.nonempty; empty = b.empty; last = b.last }
+      let b = behind width broad K at false w (shifted at m) (map (shifted at) ms)
+      (from_place LeftmostLongest at w ∙ ap (map (shifted at)) e) in
+      record {
+        passed = b.passed;
+        rest = b.rest;
+        splits = b.splits;
+        order = b.order;
+        end = b.end;
+        nonempty = b.nonempty;
+        empty = b.empty;
+        last = b.last;
+      }
   continues LeftmostFirst at w m ms e =
-      let b = behind width broad K at false w (shifted at m) (map (shifted at) ms) (from_place LeftmostFirst at w ∙ ap (map (shifted at)) e) in
-      record { passed = b.passed; rest = b.rest; splits = b.splits; order = b.order; end = b.end; nonempty = b.nonempty; empty = b.empty; last = b.last }
+      let b = behind width broad K at false w (shifted at m) (map (shifted at) ms)
+      (from_place LeftmostFirst at w ∙ ap (map (shifted at)) e) in
+      record {
+        passed = b.passed;
+        rest = b.rest;
+        splits = b.splits;
+        order = b.order;
+        end = b.end;
+        nonempty = b.nonempty;
+        empty = b.empty;
+        last = b.last;
+      }
 
 -- m is the first match that the automaton finds from the place on, and then it finds these
 pub record IsFirst (a : Automaton) (h : List ℕ) (at : ℕ) (m : Match ℕ) (ms : List (Match ℕ)) : Type 0 where
@@ -89,7 +145,9 @@ pub record IsFirst (a : Automaton) (h : List ℕ) (at : ℕ) (m : Match ℕ) (ms
   pub place : IsPlaceIn a h m.end
   pub nonempty : m.start < m.end → ms ≡ found_from (width_of a) (dictionary_of a) (kind_of a) m.end true (text_read a (drop m.end h))
   pub empty : m.end ≤ m.start → (u : ℕ) (more : List ℕ) → text_read a (drop m.end h) ≡ u ∷ more
-      → IsPlaceIn a h (m.end + width_of a u) × (ms ≡ found_from (width_of a) (dictionary_of a) (kind_of a) (m.end + width_of a u) false (text_read a (drop (m.end + width_of a u) h)))
+      → IsPlaceIn a h (m.end + width_of a u)
+      × (ms ≡ found_from (width_of a) (dictionary_of a) (kind_of a) (m.end + width_of a u) false
+      (text_read a (drop (m.end + width_of a u) h)))
   pub last : m.end ≤ m.start → text_read a (drop m.end h) ≡ [] → ms ≡ []
 
 module _ (a : Automaton) (h : List ℕ) where
@@ -97,7 +155,8 @@ module _ (a : Automaton) (h : List ℕ) where
   found = non_overlapping (kind_of a) (width_of a) (dictionary_of a)
 
   -- a place further on, behind units that were read
-  further : (at : ℕ) (front rest : List ℕ) → IsPlaceIn a h at → text_read a (drop at h) ≡ front ++ rest → IsPlaceIn a h (at + size (width_of a) front) × (text_read a (drop (at + size (width_of a) front) h) ≡ rest)
+  further : (at : ℕ) (front rest : List ℕ) → IsPlaceIn a h at → text_read a (drop at h) ≡ front ++ rest
+      → IsPlaceIn a h (at + size (width_of a) front) × (text_read a (drop (at + size (width_of a) front) h) ≡ rest)
   further at front rest p is =
       let b = behind_front (unit_of a) (folds_of a) (drop at h) front rest p.reads is in
       let far = drop-drop (size (width_of a) front) at h in (
@@ -105,7 +164,8 @@ module _ (a : Automaton) (h : List ℕ) where
         ap (text_read a) (sym far) ∙ b.reads,
       )
 
-  pub is_first : (at : ℕ) → IsPlaceIn a h at → (m : Match ℕ) (ms : List (Match ℕ)) → found (text_read a (drop at h)) ≡ m ∷ ms → IsFirst a h at (shifted at m) (map (shifted at) ms)
+  pub is_first : (at : ℕ) → IsPlaceIn a h at → (m : Match ℕ) (ms : List (Match ℕ)) → found (text_read a (drop at h)) ≡ m ∷ ms
+      → IsFirst a h at (shifted at m) (map (shifted at) ms)
   is_first at p m ms e =
       let b = continues (width_of a) (wide (unit_of a)) (dictionary_of a) (kind_of a) at (text_read a (drop at h)) m ms e in
       let end : at + m.end ≡ at + size (width_of a) b.passed = b.end in
@@ -122,7 +182,8 @@ module _ (a : Automaton) (h : List ℕ) where
             let one : (at + m.end) + size (width_of a) (u ∷ []) ≡ (at + m.end) + width_of a u = omega arith in (
               subst (IsPlaceIn a h) one next.0,
               b.empty le u more (sym rest ∙ is)
-                  ∙ ap (found_from (width_of a) (dictionary_of a) (kind_of a) (at + m.end + width_of a u) false) (sym (ap (λ n. text_read a (drop n h)) (sym one) ∙ next.1)),
+                  ∙ ap (found_from (width_of a) (dictionary_of a) (kind_of a) (at + m.end + width_of a u) false)
+                  (sym (ap (λ n. text_read a (drop n h)) (sym one) ∙ next.1)),
             );
         last = λ le is. b.last le (sym rest ∙ is);
       }
@@ -131,24 +192,34 @@ module _ (a : Automaton) (h : List ℕ) (p : Place) where
   pub pass_none : p.over ≡ false → found a h (text_read a (drop p.at h)) ≡ [] → left_of a h (afresh p) ≡ []
   pass_none is none =
       ap (λ b. cond b [] (found_from (width_of a) (dictionary_of a) (kind_of a) p.at false (text_read a (drop p.at h)))) is
-      ∙ from_place (width_of a) (wide (unit_of a)) (dictionary_of a) (kind_of a) p.at (text_read a (drop p.at h)) ∙ ap (map (shifted p.at)) none
+      ∙ from_place (width_of a) (wide (unit_of a)) (dictionary_of a) (kind_of a) p.at (text_read a (drop p.at h))
+      ∙ ap (map (shifted p.at)) none
 
   pub pass_over : p.over ≡ true → left_of a h p ≡ []
   pass_over is = ap (λ b. cond b [] (found_from (width_of a) (dictionary_of a) (kind_of a) p.at p.after (text_read a (drop p.at h)))) is
 
   -- a place moves behind the first match, within the haystack
-  pub step_within : (m : Match ℕ) (ms : List (Match ℕ)) (step : ℕ) → IsFirst a h p.at m ms → IsStep a h m.end step → m.end ≤ m.start → m.end < length h → m.end + step ≤ length h
+  pub step_within : (m : Match ℕ) (ms : List (Match ℕ)) (step : ℕ) → IsFirst a h p.at m ms → IsStep a h m.end step → m.end ≤ m.start
+      → m.end < length h → m.end + step ≤ length h
   step_within m ms step f is le lt = by (text_read a (drop m.end h)) refl
     where
       by : (w : List ℕ) → text_read a (drop m.end h) ≡ w → m.end + step ≤ length h
-      by [] none = absurd (omega (arith, lt, length-drop m.end h, sym (size-read (unit_of a) (folds_of a) (drop m.end h) f.place.reads) ∙ ap (size (width_of a)) none))
+      by [] none =
+          absurd (omega (
+            arith,
+            lt,
+            length-drop m.end h,
+            sym (size-read (unit_of a) (folds_of a) (drop m.end h) f.place.reads) ∙ ap (size (width_of a)) none,
+          ))
       by (u ∷ more) some =
           let first = first_read (unit_of a) (folds_of a) (units_in (unit_of a) (drop m.end h)) u more some in
           omega (arith, (f.empty le u more some).0.within, is first.0 first.1 first.2, first.3)
 
-  behind_is : (m : Match ℕ) (ms : List (Match ℕ)) (step : ℕ) (q : Place) → IsFirst a h p.at m ms → IsStep a h m.end step → StandsBehind m step (length h) q → IsPlaceIn a h q.at × (ms ≡ left_of a h q)
+  behind_is : (m : Match ℕ) (ms : List (Match ℕ)) (step : ℕ) (q : Place) → IsFirst a h p.at m ms → IsStep a h m.end step
+      → StandsBehind m step (length h) q → IsPlaceIn a h q.at × (ms ≡ left_of a h q)
   behind_is m ms step q f is s = elim (cases_lt m.start m.end) [
-    | inl lt ↦ let here = s.nonempty lt in (subst (λ n. IsPlaceIn a h n) (sym (ap (λ (x : Place). x.at) here)) f.place, f.nonempty lt ∙ ap (left_of a h) (sym here))
+    | inl lt ↦ let here = s.nonempty lt in
+        (subst (λ n. IsPlaceIn a h n) (sym (ap (λ (x : Place). x.at) here)) f.place, f.nonempty lt ∙ ap (left_of a h) (sym here))
     | inr le ↦ by le (text_read a (drop m.end h)) refl
   ]
     where
@@ -163,12 +234,15 @@ module _ (a : Automaton) (h : List ℕ) (p : Place) where
           let far : m.end + step ≡ m.end + width_of a u = ap (λ n. m.end + n) (is first.0 first.1 first.2 ∙ sym first.3) in
           let long = sym (size-read (unit_of a) (folds_of a) (drop m.end h) f.place.reads) ∙ ap (size (width_of a)) some in
           let here = s.empty le (omega (arith, long, length-drop m.end h, wide (unit_of a) u)) in
-          let there : q ≡ record { at = m.end + width_of a u; after = false; over = false } = here ∙ ap (λ n. record { at = n; after = false; over = false }) far in
+          let there : q ≡ record { at = m.end + width_of a u; after = false; over = false } = here
+          ∙ ap (λ n. record { at = n; after = false; over = false }) far in
           (subst (λ n. IsPlaceIn a h n) (sym (ap (λ (x : Place). x.at) there)) next.0, next.1 ∙ ap (left_of a h) (sym there))
 
   -- what is found at the place is what is left, and the place moves behind its first match
-  pub pass_some : p.over ≡ false → (m : Match ℕ) (ms : List (Match ℕ)) → found a h (text_read a (drop p.at h)) ≡ m ∷ ms → IsFirst a h p.at (shifted p.at m) (map (shifted p.at) ms)
-      → (step : ℕ) (q : Place) → IsStep a h (p.at + m.end) step → StandsBehind (shifted p.at m) step (length h) q → IsPlaceIn a h q.at × (left_of a h (afresh p) ≡ shifted p.at m ∷ left_of a h q)
+  pub pass_some : p.over ≡ false → (m : Match ℕ) (ms : List (Match ℕ)) → found a h (text_read a (drop p.at h)) ≡ m ∷ ms
+      → IsFirst a h p.at (shifted p.at m) (map (shifted p.at) ms)
+      → (step : ℕ) (q : Place) → IsStep a h (p.at + m.end) step → StandsBehind (shifted p.at m) step (length h) q
+      → IsPlaceIn a h q.at × (left_of a h (afresh p) ≡ shifted p.at m ∷ left_of a h q)
   pass_some is m ms e f step q wide_step s =
       let b = behind_is (shifted p.at m) (map (shifted p.at) ms) step q f wide_step s in (
         b.0,
@@ -200,19 +274,22 @@ module _ (a : Automaton) (h : List ℕ) (p : Place) where
   none_by LeftmostFirst false e = e
   none_by LeftmostFirst true e = (after_by p.over).none e
 
-  empty_by : (k : MatchKind) → k ≢ Standard → (m : Match ℕ) (ms : List (Match ℕ)) → left_by k p.over false ≡ m ∷ ms → m.end ≡ p.at → left_by k p.over true ≡ ms
+  empty_by : (k : MatchKind) → k ≢ Standard → (m : Match ℕ) (ms : List (Match ℕ)) → left_by k p.over false ≡ m ∷ ms → m.end ≡ p.at
+      → left_by k p.over true ≡ ms
   empty_by Standard not m ms e at = absurd (not refl)
   empty_by LeftmostLongest not m ms e at = (after_by p.over).empty m ms e at
   empty_by LeftmostFirst not m ms e at = (after_by p.over).empty m ms e at
 
-  later_by : (k : MatchKind) (after : Bool) (m : Match ℕ) (ms : List (Match ℕ)) → left_by k p.over false ≡ m ∷ ms → p.at < m.end → left_by k p.over after ≡ m ∷ ms
+  later_by : (k : MatchKind) (after : Bool) (m : Match ℕ) (ms : List (Match ℕ)) → left_by k p.over false ≡ m ∷ ms → p.at < m.end
+      → left_by k p.over after ≡ m ∷ ms
   later_by Standard after m ms e lt = e
   later_by LeftmostLongest false m ms e lt = e
   later_by LeftmostLongest true m ms e lt = (after_by p.over).later m ms e lt
   later_by LeftmostFirst false m ms e lt = e
   later_by LeftmostFirst true m ms e lt = (after_by p.over).later m ms e lt
 
-  kept_by : (k : MatchKind) (after : Bool) (m : Match ℕ) (ms : List (Match ℕ)) → left_by k p.over false ≡ m ∷ ms → ((after ≡ true) × (k ≢ Standard) → ⊥) → left_by k p.over after ≡ m ∷ ms
+  kept_by : (k : MatchKind) (after : Bool) (m : Match ℕ) (ms : List (Match ℕ)) → left_by k p.over false ≡ m ∷ ms
+      → ((after ≡ true) × (k ≢ Standard) → ⊥) → left_by k p.over after ≡ m ∷ ms
   kept_by Standard after m ms e never = e
   kept_by LeftmostLongest false m ms e never = e
   kept_by LeftmostLongest true m ms e never = absurd (never (refl, λ is. cc))
@@ -222,11 +299,13 @@ module _ (a : Automaton) (h : List ℕ) (p : Place) where
   pub left_none : left_of a h (afresh p) ≡ [] → left_of a h p ≡ []
   left_none = none_by (kind_of a) p.after
 
-  left_empty : p.after ≡ true → kind_of a ≢ Standard → (m : Match ℕ) (ms : List (Match ℕ)) → left_of a h (afresh p) ≡ m ∷ ms → m.end ≡ p.at → left_of a h p ≡ ms
+  left_empty : p.after ≡ true → kind_of a ≢ Standard → (m : Match ℕ) (ms : List (Match ℕ)) → left_of a h (afresh p) ≡ m ∷ ms → m.end ≡ p.at
+      → left_of a h p ≡ ms
   left_empty is not m ms e at = ap (left_by (kind_of a) p.over) is ∙ empty_by (kind_of a) not m ms e at
 
   -- a match that is no empty leftmost one at the end of a nonempty one
-  pub left_kept : (m : Match ℕ) (ms : List (Match ℕ)) → left_of a h (afresh p) ≡ m ∷ ms → p.at ≤ m.end → ((p.after ≡ true) × (m.end ≡ p.at) × (kind_of a ≢ Standard) → ⊥) → left_of a h p ≡ m ∷ ms
+  pub left_kept : (m : Match ℕ) (ms : List (Match ℕ)) → left_of a h (afresh p) ≡ m ∷ ms → p.at ≤ m.end
+      → ((p.after ≡ true) × (m.end ≡ p.at) × (kind_of a ≢ Standard) → ⊥) → left_of a h p ≡ m ∷ ms
   left_kept m ms e le never = elim (cases_lt p.at m.end) [
     | inl lt ↦ later_by (kind_of a) p.after m ms e lt
     | inr ge ↦ kept_by (kind_of a) p.after m ms e (λ q. never (q.0, omega (arith, le, ge), q.1))
@@ -236,13 +315,18 @@ module _ (a : Automaton) (h : List ℕ) (p : Place) where
   left_same is = ap (left_by (kind_of a) p.over) is
 
 -- what is left past an empty match at the end of a nonempty one
-pub left_past : (a : Automaton) (h : List ℕ) (p q : Place) → p.after ≡ true → kind_of a ≢ Standard → (m : Match ℕ) → left_of a h (afresh p) ≡ m ∷ left_of a h q → m.end ≡ p.at
+pub left_past : (a : Automaton) (h : List ℕ) (p q : Place) → p.after ≡ true → kind_of a ≢ Standard → (m : Match ℕ)
+    → left_of a h (afresh p) ≡ m ∷ left_of a h q → m.end ≡ p.at
     → (m.end ≡ p.at → q.after ≡ false) → left_of a h p ≡ left_of a h (afresh q)
 left_past a h p q is not m e at clear = left_empty a h p is not m (left_of a h q) e at ∙ left_same a h q (clear at)
 
 -- at the beginning all is left
-pub left_whole : (a : Automaton) (h : List ℕ) → left_of a h (record { at = 0; after = false; over = false }) ≡ non_overlapping (kind_of a) (width_of a) (dictionary_of a) (text_read a h)
-left_whole a h = from_place (width_of a) (wide (unit_of a)) (dictionary_of a) (kind_of a) 0 (text_read a h) ∙ shifted-none (non_overlapping (kind_of a) (width_of a) (dictionary_of a) (text_read a h))
+pub left_whole : (a : Automaton) (h : List ℕ)
+    → left_of a h (record { at = 0; after = false; over = false }) ≡ non_overlapping (kind_of a) (width_of a) (dictionary_of a)
+    (text_read a h)
+left_whole a h =
+    from_place (width_of a) (wide (unit_of a)) (dictionary_of a) (kind_of a) 0 (text_read a h)
+    ∙ shifted-none (non_overlapping (kind_of a) (width_of a) (dictionary_of a) (text_read a h))
 
 pub begins : (a : Automaton) (h : List ℕ) → Reads a h → IsPlaceIn a h 0
 begins a h reads = record { within = omega arith; reads = reads }
@@ -253,8 +337,12 @@ parts_in_bytes h s [] here = here.0
 parts_in_bytes h s (m ∷ ms) are = (are.0.0, are.1, are.2.0, are.3, parts_in_bytes h m.end ms are.4)
 
 -- the matches from the beginning are parts of the haystack
-pub left_parts : (a : Automaton) (h : List ℕ) → Reads a h → AreParts (λ i. i ≤ length h) 0 (left_of a h (record { at = 0; after = false; over = false }))
-left_parts (Bytes a) h reads = parts_of_bytes (dictionary_of (Bytes a)) (folds_of (Bytes a)) (kind_of (Bytes a)) h _ (left_whole (Bytes a) h)
+pub left_parts : (a : Automaton) (h : List ℕ) → Reads a h
+    → AreParts (λ i. i ≤ length h) 0 (left_of a h (record { at = 0; after = false; over = false }))
+left_parts (Bytes a) h reads =
+    parts_of_bytes (dictionary_of (Bytes a)) (folds_of (Bytes a)) (kind_of (Bytes a)) h _ (left_whole (Bytes a) h)
 left_parts (Characters a) h reads =
     let ms = left_of (Characters a) h (record { at = 0; after = false; over = false }) in
-    parts_in_bytes h 0 ms (parts_of_text (dictionary_of (Characters a)) (folds_of (Characters a)) (kind_of (Characters a)) h reads ms (left_whole (Characters a) h))
+    parts_in_bytes h 0 ms
+    (parts_of_text (dictionary_of (Characters a)) (folds_of (Characters a)) (kind_of (Characters a)) h reads ms
+    (left_whole (Characters a) h))

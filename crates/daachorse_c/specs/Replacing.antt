@@ -1,5 +1,25 @@
 -- What a call to replace promises, of joined texts and where each ends, and why it is refused.
-use Rattle.std.specs.Prelude.{◌≡◌, ◌⊎◌, ℕ, ◌-◌, ◌<◌, ◌^◌, List, ◌∷◌, ◌++◌, cond, drop, get_or, length, min, nat_lt, slice_range, take, Option, IsSomeAnd}
+use Rattle.std.specs.Prelude.{
+  ◌≡◌,
+  ◌⊎◌,
+  ℕ,
+  ◌-◌,
+  ◌<◌,
+  ◌^◌,
+  List,
+  ◌∷◌,
+  ◌++◌,
+  cond,
+  drop,
+  get_or,
+  length,
+  min,
+  nat_lt,
+  slice_range,
+  take,
+  Option,
+  IsSomeAnd,
+}
 use Rattle.daachorse_model.specs.declared.Match.{Match}
 use Rattle.daachorse_streams.specs.ByKind.{non_overlapping}
 use Rattle.daachorse_streams.specs.Replaced.{with_replacements}
@@ -11,7 +31,8 @@ use Rattle.daachorse_c.specs.Patterns.{AreEnds}
 use Rattle.daachorse_c.specs.Searches.{IsUnreadCause, IsUseCause}
 use Rattle.daachorse_c.specs.Written.{StandsInFront}
 
--- As much of the text as there is room for stands in front, and behind it what was there. So long is the text, as far as that can be counted.
+-- As much of the text as there is room for stands in front, and behind it what was there. So long is the text, as far as that can be
+-- counted.
 pub record IsCut (text old new : List ℕ) (size : ℕ) : Type 0 where
   pub front : new ≡ take (length old) text ++ drop (length text) old
   pub long : size ≡ min (length text) (2 ^ 64 - 1)
@@ -37,7 +58,8 @@ module _ (bytes ends haystack : List ℕ) where
   abbrev pub HasReplaced : Automaton → List ℕ → List ℕ → ℕ → Type 0
   HasReplaced a old new size = Reads a haystack × StandsInFront (replaced_by a) old new × (size ≡ length (replaced_by a))
 
-  -- why matches are not replaced: the ends are wrong, or the haystack is no text, and nothing is written, or there is no room for all, and a beginning is written
+  -- why matches are not replaced: the ends are wrong, or the haystack is no text, and nothing is written, or there is no room for all, and
+  -- a beginning is written
   abbrev pub IsNotReplaced : Automaton → List ℕ → List ℕ → ℕ → Refusal → Type 0
   IsNotReplaced a old new size r =
       ((r ≡ WrongPatterns) × ¬ AreEnds 0 (length bytes) ends × (new ≡ old) × (size ≡ 0))
@@ -46,4 +68,5 @@ module _ (bytes ends haystack : List ℕ) where
 
   -- why a call to replace is refused, and what it writes then
   abbrev pub IsReplaceCause : Option Held → List ℕ → List ℕ → ℕ → Refusal → Type 0
-  IsReplaceCause held old new size r = (IsUseCause held r × (new ≡ old) × (size ≡ 0)) ⊎ IsSomeAnd held (λ a. IsNotReplaced a.searches old new size r)
+  IsReplaceCause held old new size r =
+      (IsUseCause held r × (new ≡ old) × (size ≡ 0)) ⊎ IsSomeAnd held (λ a. IsNotReplaced a.searches old new size r)

@@ -2,13 +2,23 @@
 use Rattle.std.proofs.Common.{◌≡◌, ℕ, List, [], ◌∷◌, ◌++◌, length, map, refl, sym, ap, ◌∙◌, subst, append_assoc, append-nil, arith}
 use Rattle.std.specs.Prelude.{Option, slice_range}
 use Rattle.daachorse_model.specs.declared.Match.{Match}
-use Rattle.daachorse_streams.specs.Replaced.{AppendsBeginning, AreGiven, OfReplaced, OfReplacedSoFar, with_pieces_from, with_replacements, with_replacements_from}
+use Rattle.daachorse_streams.specs.Replaced.{
+  AppendsBeginning,
+  AreGiven,
+  OfReplaced,
+  OfReplacedSoFar,
+  with_pieces_from,
+  with_replacements,
+  with_replacements_from,
+}
 
 -- what a replacement gives for a match and the part of the haystack that it is has the bytes that `with` says of the match
 abbrev pub Replaces : {V P : Type 0} → (P → List ℕ) → List ℕ → (Match V → P → P → Type 0) → (Match V → List ℕ) → Type 0
-Replaces bytes haystack gives with = (m : Match _) (part given : _) → bytes part ≡ slice_range haystack m.start m.end → gives m part given → bytes given ≡ with m
+Replaces bytes haystack gives with =
+    (m : Match _) (part given : _) → bytes part ≡ slice_range haystack m.start m.end → gives m part given → bytes given ≡ with m
 
-module _ {V P : Type 0} (bytes : P → List ℕ) (haystack : List ℕ) (gives : Match V → P → P → Type 0) (with : Match V → List ℕ) (exact : Replaces bytes haystack gives with) where
+module _ {V P : Type 0} (bytes : P → List ℕ) (haystack : List ℕ) (gives : Match V → P → P → Type 0) (with : Match V → List ℕ)
+    (exact : Replaces bytes haystack gives with) where
   -- the pieces are what `with` says, and a match without a piece is what is left
   from_pieces : (s : ℕ) (ms : List (Match V)) (given : List P) → AreGiven bytes haystack gives ms given
       → (rest : List ℕ) × (with_replacements_from with haystack s ms ≡ with_pieces_from haystack s ms (map bytes given) ++ rest)
@@ -34,11 +44,13 @@ module _ {V P : Type 0} (bytes : P → List ℕ) (haystack : List ℕ) (gives : 
       ∙ ap (λ l. slice_range haystack s m.start ++ (with m ++ l)) (all_pieces m.end ms given are.1 (omega (arith, n)))
 
   -- what comes out is the haystack with each match replaced by what `with` says of it
-  pub OfReplaced-exact : (ms : List (Match V)) (Q : List ℕ → Type 0) → OfReplaced bytes haystack gives ms Q → Q (with_replacements with haystack ms)
+  pub OfReplaced-exact : (ms : List (Match V)) (Q : List ℕ → Type 0) → OfReplaced bytes haystack gives ms Q
+      → Q (with_replacements with haystack ms)
   OfReplaced-exact ms Q (given, are, n, q) = subst Q (all_pieces 0 ms given are n) q
 
   -- and where the output refuses, a beginning of that
-  pub OfReplacedSoFar-exact : (ms : List (Match V)) (old new : Option (List ℕ)) → OfReplacedSoFar bytes haystack gives ms (AppendsBeginning old new) → AppendsBeginning old new (with_replacements with haystack ms)
+  pub OfReplacedSoFar-exact : (ms : List (Match V)) (old new : Option (List ℕ))
+      → OfReplacedSoFar bytes haystack gives ms (AppendsBeginning old new) → AppendsBeginning old new (with_replacements with haystack ms)
   OfReplacedSoFar-exact ms old new (given, are, (part, rest, is, went)) =
       let whole = from_pieces 0 ms given are in
       (part, rest ++ whole.0, whole.1 ∙ ap (λ l. l ++ whole.0) is ∙ append_assoc part rest whole.0, went)

@@ -15,6 +15,8 @@ module _ {V : Type 0} (with : Match V → List ℕ) (bytes : List ℕ) where
   replaced_before s [] = []
   replaced_before s (m ∷ ms) = slice_range bytes s m.start ++ (with m ++ replaced_before m.end ms)
 
-  pub with_replacements-split : (s : ℕ) (xs ys : List (Match V)) → with_replacements_from with bytes s (xs ++ ys) ≡ replaced_before s xs ++ with_replacements_from with bytes (last_end s xs) ys
+  pub with_replacements-split : (s : ℕ) (xs ys : List (Match V))
+      → with_replacements_from with bytes s (xs ++ ys) ≡ replaced_before s xs ++ with_replacements_from with bytes (last_end s xs) ys
   with_replacements-split s [] ys = refl
-  with_replacements-split s (m ∷ ms) ys = ap (λ l. slice_range bytes s m.start ++ (with m ++ l)) (with_replacements-split m.end ms ys) ∙ simp append_assoc refl
+  with_replacements-split s (m ∷ ms) ys =
+      ap (λ l. slice_range bytes s m.start ++ (with m ++ l)) (with_replacements-split m.end ms ys) ∙ simp append_assoc refl

@@ -1,5 +1,36 @@
 -- Where a stream stands: what is held comes behind what was put out, and no match that is to come begins before it.
-use Rattle.std.proofs.Common.{◌≡◌, ◌⊎◌, inl, inr, ℕ, ◌+◌, ◌-◌, ◌≤◌, List, [], ◌∷◌, ◌++◌, length, take, drop, Option, Some, None, Result, Ok, Err, refl, sym, ap, ◌∙◌, subst, append_assoc, append-nil, length-append, arith}
+use Rattle.std.proofs.Common.{
+  ◌≡◌,
+  ◌⊎◌,
+  inl,
+  inr,
+  ℕ,
+  ◌+◌,
+  ◌-◌,
+  ◌≤◌,
+  List,
+  [],
+  ◌∷◌,
+  ◌++◌,
+  length,
+  take,
+  drop,
+  Option,
+  Some,
+  None,
+  Result,
+  Ok,
+  Err,
+  refl,
+  sym,
+  ap,
+  ◌∙◌,
+  subst,
+  append_assoc,
+  append-nil,
+  length-append,
+  arith,
+}
 use Rattle.std.proofs.lemmas.List.{drop_all, take_rest}
 use Rattle.std.specs.Prelude.{IfSome, option_to_list, slice_range}
 use Rattle.std.specs.Borrow.{MutBor}
@@ -13,10 +44,24 @@ use Rattle.daachorse_model.proofs.Suffixes.{size-append}
 use Rattle.daachorse_streams.specs.Replaced.{AppendsPart}
 use Rattle.daachorse_streams.specs.ReplacedWith.{IsReplaced, IsReplacedSoFar, IsStopped, MayWriteFor}
 use Rattle.daachorse_streams.specs.Streams.{EndsWithin, HasNoLonger, IsHeld, IsHeldBack, Settles, SettlesSoFar, before_match, block}
-use Rattle.daachorse_streams.proofs.HeldLaws.{answered-at, held-back, held-behind, held-count, held-first, held-more, held-past, held-whole, refused-before, refused-whole, refused-within, held-still}
+use Rattle.daachorse_streams.proofs.HeldLaws.{
+  answered-at,
+  held-back,
+  held-behind,
+  held-count,
+  held-first,
+  held-more,
+  held-past,
+  held-whole,
+  refused-before,
+  refused-whole,
+  refused-within,
+  held-still,
+}
 use Rattle.daachorse_streams.proofs.StandardMatches.{EndsHere, last_end-push, standard-behind, standard-late, standard_after-ends}
 
-module _ {V P O E F : Type 0} (bytes : P → List ℕ) (taken : O → Option (List ℕ)) (step : F → Match V → P → MutBor O → Result (Unit {0}) E → MutBor O → F → Type 0) (first : F) (old : O)
+module _ {V P O E F : Type 0} (bytes : P → List ℕ) (taken : O → Option (List ℕ))
+    (step : F → Match V → P → MutBor O → Result (Unit {0}) E → MutBor O → F → Type 0) (first : F) (old : O)
     (width : ℕ → ℕ) (K : Dictionary V) (longest : ℕ) where
   -- of this text, which was read as these units, the bytes up to those held were put out with these matches replaced
   pub record IsSent (text read : List ℕ) (done : List (Match V)) (held : List ℕ) (f : F) (out : O) : Type 0 where
@@ -29,7 +74,8 @@ module _ {V P O E F : Type 0} (bytes : P → List ℕ) (taken : O → Option (Li
   sent-first = record { place = 0; is = held-first bytes taken step first old; sized = refl; behind = inl (omega arith) }
 
   -- more bytes are held
-  pub sent-more : {text read : List ℕ} {done : List (Match V)} {held : List ℕ} {f : F} {out : O} → IsSent text read done held f out → (next units : List ℕ) → length next ≡ size width units
+  pub sent-more : {text read : List ℕ} {done : List (Match V)} {held : List ℕ} {f : F} {out : O} → IsSent text read done held f out
+      → (next units : List ℕ) → length next ≡ size width units
       → IsSent (text ++ next) (read ++ units) done (held ++ next) f out
   sent-more {text} {read} {done} {held} {f} {out} h next units size_is = record {
     place = h.place;
@@ -38,7 +84,8 @@ module _ {V P O E F : Type 0} (bytes : P → List ℕ) (taken : O → Option (Li
     behind = elim h.behind [ inl p ↦ inl p | inr p ↦ inr (omega (arith, p, length-append text next)) ];
   }
 
-  module _ (bound : HasNoLonger width K longest) {text read : List ℕ} {done : List (Match V)} {held : List ℕ} {f : F} {out : O} (h : IsSent text read done held f out) where
+  module _ (bound : HasNoLonger width K longest) {text read : List ℕ} {done : List (Match V)} {held : List ℕ} {f : F} {out : O}
+      (h : IsSent text read done held f out) where
     count : h.place + length held ≡ length text
     count = held-count bytes taken step first old h.is
 
@@ -47,7 +94,8 @@ module _ {V P O E F : Type 0} (bytes : P → List ℕ) (taken : O → Option (Li
       ends = standard_after-ends width K longest bound read m here
 
       starts : h.place ≤ m.start
-      starts = elim h.behind [ inl p ↦ omega (arith, p, standard-behind width K done m read gains) | inr p ↦ omega (arith, p, ends.ends, ends.short, h.sized) ]
+      starts = elim h.behind
+          [ inl p ↦ omega (arith, p, standard-behind width K done m read gains) | inr p ↦ omega (arith, p, ends.ends, ends.short, h.sized) ]
 
       after : Follows h.place (m ∷ [])
       after = (starts, ends.ordered, tt)
@@ -64,7 +112,8 @@ module _ {V P O E F : Type 0} (bytes : P → List ℕ) (taken : O → Option (Li
           let all : (m.end - h.place) - at ≡ length held - at = omega (arith, count, starts, ends.ordered, ends.ends, h.sized) in
           ap (λ k. drop k held) before ∙ sym (ap (λ k. take k (drop at held)) all ∙ take_rest held at)
 
-      sent-matched : (at next : O) (g : F) → Appends (taken out) (taken at) (take (before_match held m) held) → MayWriteFor bytes step f m (drop (before_match held m) held) at (Ok tt) next g
+      sent-matched : (at next : O) (g : F) → Appends (taken out) (taken at) (take (before_match held m) held)
+          → MayWriteFor bytes step f m (drop (before_match held m) held) at (Ok tt) next g
           → IsSent text read (done ++ m ∷ []) [] g next
       sent-matched at next g went call = record {
         place = m.end;
@@ -72,15 +121,18 @@ module _ {V P O E F : Type 0} (bytes : P → List ℕ) (taken : O → Option (Li
             let H : List ℕ → Type 0 = λ l. IsHeld bytes taken step first old text (done ++ m ∷ []) m.end l g next in
             let C : List ℕ → Type 0 = λ l. MayWriteFor bytes step f m l at (Ok tt) next g in
             subst H (drop_all (m.end - h.place) held (omega (arith, count, ends.ends, h.sized)))
-            (held-behind bytes taken step first old h.is m [] after inner at next g (subst (λ k. Appends (taken out) (taken at) (take k held)) before went) (subst C matched call));
+            (held-behind bytes taken step first old h.is m [] after inner at next g
+            (subst (λ k. Appends (taken out) (taken at) (take k held)) before went) (subst C matched call));
         sized = h.sized;
         behind = inl (omega (arith, last_end-push 0 done m));
       }
 
       module _ (ms : List (Match V)) (later : Follows m.end ms) (new : O) (e : E) where
-        refused-matched : SettlesSoFar bytes taken step e longest (Some m) held f out new → (more : List ℕ) → IsStopped bytes taken (text ++ more) step e (done ++ m ∷ ms) first old new
+        refused-matched : SettlesSoFar bytes taken step e longest (Some m) held f out new → (more : List ℕ)
+            → IsStopped bytes taken (text ++ more) step e (done ++ m ∷ ms) first old new
         refused-matched (inl part) =
-            refused-before bytes taken step first old h.is m ms (starts, ends.ordered, later) inner new (subst (λ k. AppendsPart (taken out) (taken new) (take k held)) before part) e
+            refused-before bytes taken step first old h.is m ms (starts, ends.ordered, later) inner new
+            (subst (λ k. AppendsPart (taken out) (taken new) (take k held)) before part) e
         refused-matched (inr (at, g, went, call)) =
             let C : List ℕ → Type 0 = λ l. MayWriteFor bytes step f m l at (Err e) new g in
             answered-at bytes taken step first old h.is m ms (starts, ends.ordered, later) inner at new e g
@@ -90,21 +142,29 @@ module _ {V P O E F : Type 0} (bytes : P → List ℕ) (taken : O → Option (Li
       within-matched = (ends.ordered, omega (arith, count, starts, ends.ends, h.sized))
 
     -- a match that ends here is within the bytes held
-    pub sent-within : (found : Option (Match V)) → found ≡ standard_after width K read → standard width K read ≡ done ++ option_to_list (standard_after width K read) → IfSome found (EndsWithin held)
+    pub sent-within : (found : Option (Match V)) → found ≡ standard_after width K read
+        → standard width K read ≡ done ++ option_to_list (standard_after width K read) → IfSome found (EndsWithin held)
     sent-within None is gains = tt
     sent-within (Some m) is gains = within-matched m (sym is) (gains ∙ ap (λ o. done ++ option_to_list o) (sym is))
 
-    sent-past : (n : ℕ) (next : O) → (n ≡ 0) ⊎ (n + longest ≤ length held) → n ≤ length held → Appends (taken out) (taken next) (take n held) → IsSent text read done (drop n held) f next
+    sent-past : (n : ℕ) (next : O) → (n ≡ 0) ⊎ (n + longest ≤ length held) → n ≤ length held
+        → Appends (taken out) (taken next) (take n held) → IsSent text read done (drop n held) f next
     sent-past n next many inner went = record {
       place = h.place + n;
       is = held-past bytes taken step first old h.is n next inner went;
       sized = h.sized;
-      behind = elim many [ inl none ↦ elim h.behind [ inl p ↦ inl (omega (arith, p, none)) | inr p ↦ inr (omega (arith, p, none)) ] | inr p ↦ inr (omega (arith, p, count)) ];
+      behind = elim many [
+        | inl none ↦ elim h.behind [ inl p ↦ inl (omega (arith, p, none)) | inr p ↦ inr (omega (arith, p, none)) ]
+        | inr p ↦ inr
+            (omega (arith, p, count))
+      ];
     }
 
     -- what was settled went out with the match that ends here, if there is one
-    pub sent-settled : (found : Option (Match V)) → found ≡ standard_after width K read → standard width K read ≡ done ++ option_to_list (standard_after width K read)
-        → (rest : List ℕ) (g : F) (new : O) → Settles bytes taken step longest found held f out rest g new → IsSent text read (standard width K read) rest g new
+    pub sent-settled : (found : Option (Match V)) → found ≡ standard_after width K read
+        → standard width K read ≡ done ++ option_to_list (standard_after width K read)
+        → (rest : List ℕ) (g : F) (new : O) → Settles bytes taken step longest found held f out rest g new
+        → IsSent text read (standard width K read) rest g new
     sent-settled None is gains rest g new (n, out, same) =
         let none : standard width K read ≡ done = gains ∙ ap (λ o. done ++ option_to_list o) (sym is) ∙ append-nil done in
         let D : List (Match V) → Type 0 = λ l. IsSent text read l rest g new in
@@ -153,13 +213,16 @@ module _ {V P O E F : Type 0} (bytes : P → List ℕ) (taken : O → Option (Li
             let place : h.place + 0 ≡ h.place = omega arith in
             (late.0, late.1, subst (λ n. Follows n late.0) place late.2)
 
-        pub unsent-nothing : (more d : List ℕ) → IsReplacedSoFar bytes taken (text ++ more) step (standard width K (read ++ d)) first old out
+        pub unsent-nothing : (more d : List ℕ)
+            → IsReplacedSoFar bytes taken (text ++ more) step (standard width K (read ++ d)) first old out
         unsent-nothing more d =
             let late = late_here d in
             let D : List (Match V) → Type 0 = λ l. IsReplacedSoFar bytes taken (text ++ more) step l first old out in
             subst D (sym late.1) (held-still bytes taken step first old h.is late.0 late.2 more)
 
-        pub sent-back : {X : Type 0} (matches : X → List (Match V)) → ((more : X) → (d : List ℕ) × (matches more ≡ standard width K (read ++ d))) → IsHeldBack bytes taken step matches text held first old out
+        pub sent-back : {X : Type 0} (matches : X → List (Match V))
+            → ((more : X) → (d : List ℕ) × (matches more ≡ standard width K (read ++ d)))
+            → IsHeldBack bytes taken step matches text held first old out
         sent-back matches later =
             held-back bytes taken step first old h.is matches (λ more. (
             let d = later more in
@@ -167,7 +230,8 @@ module _ {V P O E F : Type 0} (bytes : P → List ℕ) (taken : O → Option (Li
             (late.0, d.1 ∙ late.1, late.2)
             ))
 
-      module _ (found : Option (Match V)) (here : found ≡ standard_after width K read) (gains : standard width K read ≡ done ++ option_to_list (standard_after width K read)) (new : O) (e : E) where
+      module _ (found : Option (Match V)) (here : found ≡ standard_after width K read)
+          (gains : standard width K read ≡ done ++ option_to_list (standard_after width K read)) (new : O) (e : E) where
         none_found : found ≡ None → standard width K read ≡ done
         none_found is = gains ∙ ap (λ o. done ++ option_to_list o) (sym here ∙ is) ∙ append-nil done
 
@@ -177,7 +241,8 @@ module _ {V P O E F : Type 0} (bytes : P → List ℕ) (taken : O → Option (Li
 
           late_after : (d : List ℕ) → (ms : List (Match V)) × (standard width K (read ++ d) ≡ done ++ m ∷ ms) × Follows m.end ms
           late_after d =
-              let late = standard-late width K longest bound m.end wide read d (done ++ m ∷ []) one_found (inl (omega (arith, last_end-push 0 done m))) in
+              let late = standard-late width K longest bound m.end wide read d (done ++ m ∷ []) one_found
+              (inl (omega (arith, last_end-push 0 done m))) in
               (late.0, late.1 ∙ append_assoc done (m ∷ []) late.0, late.2)
 
         refused-here : (o : Option (Match V)) → found ≡ o → SettlesSoFar bytes taken step e longest o held f out new
@@ -189,11 +254,14 @@ module _ {V P O E F : Type 0} (bytes : P → List ℕ) (taken : O → Option (Li
             subst D (sym late.1) (refused-matched m (sym here ∙ is) (one_found m is) late.0 late.2 new e part more)
 
         -- the output refused some of what was to be settled, or the call returned the error
-        pub refused-settled : SettlesSoFar bytes taken step e longest found held f out new → (more d : List ℕ) → IsStopped bytes taken (text ++ more) step e (standard width K (read ++ d)) first old new
+        pub refused-settled : SettlesSoFar bytes taken step e longest found held f out new → (more d : List ℕ)
+            → IsStopped bytes taken (text ++ more) step e (standard width K (read ++ d)) first old new
         refused-settled = refused-here found refl
 
 -- what is held after that is no more than the longest key and a block
-pub settled-few : {V P O E F : Type 0} (bytes : P → List ℕ) (taken : O → Option (List ℕ)) (step : F → Match V → P → MutBor O → Result (Unit {0}) E → MutBor O → F → Type 0)
-    (longest : ℕ) (found : Option (Match V)) (held : List ℕ) (f : F) (old : O) (rest : List ℕ) (g : F) (new : O) → Settles bytes taken step longest found held f old rest g new → length rest ≤ longest + block
+pub settled-few : {V P O E F : Type 0} (bytes : P → List ℕ) (taken : O → Option (List ℕ))
+    (step : F → Match V → P → MutBor O → Result (Unit {0}) E → MutBor O → F → Type 0)
+    (longest : ℕ) (found : Option (Match V)) (held : List ℕ) (f : F) (old : O) (rest : List ℕ) (g : F) (new : O)
+    → Settles bytes taken step longest found held f old rest g new → length rest ≤ longest + block
 settled-few bytes taken step longest None held f old rest g new (n, out, same) = out.few
 settled-few bytes taken step longest (Some m) held f old rest g new (at, went, call, none) = omega (arith, ap length none)

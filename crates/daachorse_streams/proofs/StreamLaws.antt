@@ -1,5 +1,39 @@
 -- A stream's search: where it begins, when it has room for a unit, what is certain, and its turns.
-use Rattle.std.proofs.Common.{◌≡◌, ℕ, ◌+◌, ◌*◌, ◌^◌, ◌<◌, ◌≤◌, ◌⊎◌, inl, inr, Bool, true, false, cond, List, [], ◌∷◌, ◌++◌, length, map, drop, Option, Some, None, refl, sym, ap, ◌∙◌, subst, append_assoc, append-nil, length-append, arith}
+use Rattle.std.proofs.Common.{
+  ◌≡◌,
+  ℕ,
+  ◌+◌,
+  ◌*◌,
+  ◌^◌,
+  ◌<◌,
+  ◌≤◌,
+  ◌⊎◌,
+  inl,
+  inr,
+  Bool,
+  true,
+  false,
+  cond,
+  List,
+  [],
+  ◌∷◌,
+  ◌++◌,
+  length,
+  map,
+  drop,
+  Option,
+  Some,
+  None,
+  refl,
+  sym,
+  ap,
+  ◌∙◌,
+  subst,
+  append_assoc,
+  append-nil,
+  length-append,
+  arith,
+}
 use Rattle.std.specs.VecDeque.{deque_capacity}
 use Rattle.std.specs.declared.collections.VecDeque.{VecDeque}
 use Rattle.std.proofs.lemmas.Bool.{le-ltb, ltb-false}
@@ -60,7 +94,8 @@ module _ {V : Type 0} (width : ℕ → ℕ) (wide : (u : ℕ) → 1 ≤ width u)
   -- nothing was read yet
   pub begun : IsLeftmostView view → (ring : VecDeque U ALLOC) → ring.items ≡ [] → IsRoomFor width view.content (deque_capacity ring)
       → (scan : Scan) → IsScan width view 0 [] scan [] → (turns : ℕ) → turns ≡ 0 → (seen : SeenUnits) → seen ≡ unread
-      → IsSearching width view unit (record { ring = ring; walked = 0; scan = scan; skips = false; after = false; ended = false; turns = turns; seen = seen })
+      → IsSearching width view unit
+      (record { ring = ring; walked = 0; scan = scan; skips = false; after = false; ended = false; turns = turns; seen = seen })
   begun kind ring none room scan begins turns no_turns seen nothing =
       let read : seen.since ≡ [] = ap (λ (x : SeenUnits). x.since) nothing in
       record {
@@ -87,13 +122,17 @@ module _ {V : Type 0} (width : ℕ → ℕ) (wide : (u : ℕ) → 1 ≤ width u)
     from = size width is.passed
 
     pub none_ahead : s.walked ≡ length s.ring.items → is.ahead ≡ []
-    none_ahead all = nil_from_length is.ahead (omega (arith, all, is.walked, ap length is.ring, length-map s.ring.items unit, length-append is.behind is.ahead))
+    none_ahead all =
+        nil_from_length is.ahead (omega
+        (arith, all, is.walked, ap length is.ring, length-map s.ring.items unit, length-append is.behind is.ahead))
 
     -- where nothing waits, all units were read and nothing is decided
-    pub none_waits : waits s.scan.decided s.walked (length s.ring.items) ≡ false → (s.scan.decided ≡ false) × (s.walked ≡ length s.ring.items)
+    pub none_waits : waits s.scan.decided s.walked (length s.ring.items) ≡ false
+        → (s.scan.decided ≡ false) × (s.walked ≡ length s.ring.items)
     none_waits quiet = by s.scan.decided refl quiet
       where
-        by : (d : Bool) → s.scan.decided ≡ d → waits d s.walked (length s.ring.items) ≡ false → (s.scan.decided ≡ false) × (s.walked ≡ length s.ring.items)
+        by : (d : Bool) → s.scan.decided ≡ d → waits d s.walked (length s.ring.items) ≡ false
+            → (s.scan.decided ≡ false) × (s.walked ≡ length s.ring.items)
         by true e quiet = cc
         by false e quiet = (e, omega (arith, ltb-false s.walked (length s.ring.items) quiet, walked_within width view unit is))
 
@@ -102,17 +141,30 @@ module _ {V : Type 0} (width : ℕ → ℕ) (wide : (u : ℕ) → 1 ≤ width u)
     place_before =
         let left : map unit (drop s.walked s.ring.items) ≡ is.ahead =
         sym (drop-map unit s.walked s.ring.items) ∙ ap (drop s.walked) is.ring ∙ drop_at is.behind is.ahead s.walked (sym is.walked) in
-        omega (arith, place_is width view unit is, ap (size width) left, ap (size width) is.parts, size-append width is.passed (is.w ++ is.ahead), size-append width is.w is.ahead)
+        omega (
+          arith,
+          place_is width view unit is,
+          ap (size width) left,
+          ap (size width) is.parts,
+          size-append width is.passed (is.w ++ is.ahead),
+          size-append width is.w is.ahead,
+        )
 
     -- where all units were read and none is decided, there is room for one more
     pub has_room : s.scan.decided ≡ false → s.walked ≡ length s.ring.items → length s.ring.items < deque_capacity s.ring
     has_room open_yet all = omega (arith, all, is.walked, by s.skips is.stands)
       where
-        some_behind : (t : List ℕ) (at : Pending) → IsSteady view.content is.w t → IsPending width view from is.w t at false is.behind → length is.behind < deque_capacity s.ring
+        some_behind : (t : List ℕ) (at : Pending) → IsSteady view.content is.w t → IsPending width view from is.w t at false is.behind
+            → length is.behind < deque_capacity s.ring
         some_behind t at steady pending = short (pending.child refl)
           where
             near : length is.behind ≤ length t
-            near = omega (arith, none_before view.content is.w t steady.none pending.front pending.key pending.best.rest pending.best.occurs, occurs_length view.content is.w pending.front pending.key pending.best.rest pending.best.occurs, ap length pending.rest)
+            near = omega (
+              arith,
+              none_before view.content is.w t steady.none pending.front pending.key pending.best.rest pending.best.occurs,
+              occurs_length view.content is.w pending.front pending.key pending.best.rest pending.best.occurs,
+              ap length pending.rest,
+            )
 
             short : HasChild view.content t → length is.behind < deque_capacity s.ring
             short (u, inl empty) = absurd (omega (arith, ap length empty, length-append t (u ∷ [])))
@@ -124,7 +176,8 @@ module _ {V : Type 0} (width : ℕ → ℕ) (wide : (u : ℕ) → 1 ≤ width u)
               length-append t (u ∷ []),
             )
 
-        best_behind : (best : Option Pending) → IsSteady view.content is.w (view.text s.scan.state) → IsPendingSoFar width view from is.w (view.text s.scan.state) best false is.behind → length is.behind < deque_capacity s.ring
+        best_behind : (best : Option Pending) → IsSteady view.content is.w (view.text s.scan.state)
+            → IsPendingSoFar width view from is.w (view.text s.scan.state) best false is.behind → length is.behind < deque_capacity s.ring
         best_behind None steady pending = omega (arith, room_some is.room, ap length pending.2)
         best_behind (Some at) steady pending = some_behind (view.text s.scan.state) at steady pending
 
@@ -135,13 +188,35 @@ module _ {V : Type 0} (width : ℕ → ℕ) (wide : (u : ℕ) → 1 ≤ width u)
             best_behind s.scan.best (scan.steady open_yet) (subst P open_yet scan.pending)
 
     -- one more unit is there to read
-    pub pushed : s.ended ≡ false → (x : U) → size width s.seen.since + width (unit x) < 2 ^ 64 → (ring : VecDeque U ALLOC) → ring.items ≡ s.ring.items ++ x ∷ [] → deque_capacity ring ≡ deque_capacity s.ring
+    pub pushed : s.ended ≡ false → (x : U) → size width s.seen.since + width (unit x) < 2 ^ 64 → (ring : VecDeque U ALLOC)
+        → ring.items ≡ s.ring.items ++ x ∷ [] → deque_capacity ring ≡ deque_capacity s.ring
         → (seen : SeenUnits) → seen.since ≡ s.seen.since ++ unit x ∷ [] → seen.given ≡ s.seen.given
-        → let new : Search U ALLOC = record { ring = ring; walked = s.walked; scan = s.scan; skips = s.skips; after = s.after; ended = s.ended; turns = s.turns; seen = seen } in
+        → let new : Search U ALLOC =
+        record {
+          ring = ring;
+          walked = s.walked;
+          scan = s.scan;
+          skips = s.skips;
+          after = s.after;
+          ended = s.ended;
+          turns = s.turns;
+          seen = seen;
+        } in
         IsSearching width view unit new × (given_of width view.content new ≡ given_of width view.content s)
-    pushed open_yet x fits ring items capacity seen read counts = (searches, given_is width view unit searches ∙ sym (given_is width view unit is))
+    pushed open_yet x fits ring items capacity seen read counts =
+        (searches, given_is width view unit searches ∙ sym (given_is width view unit is))
       where
-        searches : IsSearching width view unit (record { ring = ring; walked = s.walked; scan = s.scan; skips = s.skips; after = s.after; ended = s.ended; turns = s.turns; seen = seen })
+        searches : IsSearching width view unit
+            (record {
+              ring = ring;
+              walked = s.walked;
+              scan = s.scan;
+              skips = s.skips;
+              after = s.after;
+              ended = s.ended;
+              turns = s.turns;
+              seen = seen;
+            })
         searches =
             let u : ℕ = unit x in
             let C : ℕ → Type 0 = λ n. IsRoomFor width view.content n in
@@ -152,7 +227,8 @@ module _ {V : Type 0} (width : ℕ → ℕ) (wide : (u : ℕ) → 1 ≤ width u)
               behind = is.behind;
               ahead = is.ahead ++ u ∷ [];
               parts = read ∙ ap (λ y. y ++ u ∷ []) is.parts ∙ simp append_assoc;
-              ring = ap (map unit) items ∙ map-append unit s.ring.items (x ∷ []) ∙ ap (λ y. y ++ u ∷ []) is.ring ∙ append_assoc is.behind is.ahead (u ∷ []);
+              ring = ap (map unit) items ∙ map-append unit s.ring.items (x ∷ []) ∙ ap (λ y. y ++ u ∷ []) is.ring
+                  ∙ append_assoc is.behind is.ahead (u ∷ []);
               walked = is.walked;
               stands = is.stands;
               gave = is.gave;
@@ -161,7 +237,8 @@ module _ {V : Type 0} (width : ℕ → ℕ) (wide : (u : ℕ) → 1 ≤ width u)
                   ap (λ y. leftmost width view.content (y ++ d)) read
                   ∙ ap (leftmost width view.content) (append_assoc s.seen.since (u ∷ []) d)
                   ∙ is.left (u ∷ d) (λ over. absurd (let bad : true ≡ false = sym over ∙ open_yet in cc))
-                  ∙ ap (λ y. is.gave ++ leftmost_from width view.content from (cond s.skips 1 0) s.after y) (sym (append_assoc (is.w ++ is.ahead) (u ∷ []) d) ∙ ap (λ y. y ++ d) (append_assoc is.w is.ahead (u ∷ [])));
+                  ∙ ap (λ y. is.gave ++ leftmost_from width view.content from (cond s.skips 1 0) s.after y)
+                  (sym (append_assoc (is.w ++ is.ahead) (u ∷ []) d) ∙ ap (λ y. y ++ d) (append_assoc is.w is.ahead (u ∷ [])));
               most = λ m bound. omega (arith, is.most m bound, over_more s.skips is.ahead u, ap (λ k. m * k) counts);
               least = λ d still.
                   looks-as view (sym (ap (λ y. y ++ d) read ∙ append_assoc s.seen.since (u ∷ []) d))
@@ -172,7 +249,17 @@ module _ {V : Type 0} (width : ℕ → ℕ) (wide : (u : ℕ) → 1 ≤ width u)
             }
 
     -- no more units come
-    pub ended : IsSearching width view unit (record { ring = s.ring; walked = s.walked; scan = s.scan; skips = s.skips; after = s.after; ended = true; turns = s.turns; seen = s.seen })
+    pub ended : IsSearching width view unit
+        (record {
+          ring = s.ring;
+          walked = s.walked;
+          scan = s.scan;
+          skips = s.skips;
+          after = s.after;
+          ended = true;
+          turns = s.turns;
+          seen = s.seen;
+        })
     ended = record {
       kind = is.kind;
       passed = is.passed;
@@ -199,13 +286,17 @@ module _ {V : Type 0} (width : ℕ → ℕ) (wide : (u : ℕ) → 1 ≤ width u)
       where
         by : (b : Bool) → Stands width view b from is.w s.scan is.behind → s.scan.decided ≡ false
         by true idle = idle.open_yet
-        by false scan = let P : Option Pending → Type 0 = λ o. IsPendingSoFar width view from is.w (view.text s.scan.state) o s.scan.decided is.behind in (subst P none scan.pending).1
+        by false scan =
+            let P : Option Pending → Type 0 = λ o. IsPendingSoFar width view from is.w (view.text s.scan.state) o s.scan.decided
+            is.behind in (subst P none scan.pending).1
 
     -- what was given begins the matches of each haystack that begins so
     pub begin_each : s.ended ≡ false → BeginEach width view.content s.seen.since (given_of width view.content s)
     begin_each open_yet d = (
       leftmost_from width view.content from (cond s.skips 1 0) s.after ((is.w ++ is.ahead) ++ d),
-      is.left d (λ over. absurd (let bad : true ≡ false = sym over ∙ open_yet in cc)) ∙ ap (λ y. y ++ leftmost_from width view.content from (cond s.skips 1 0) s.after ((is.w ++ is.ahead) ++ d)) (sym (given_is width view unit is)),
+      is.left d (λ over. absurd (let bad : true ≡ false = sym over ∙ open_yet in cc))
+          ∙ ap (λ y. y ++ leftmost_from width view.content from (cond s.skips 1 0) s.after ((is.w ++ is.ahead) ++ d))
+          (sym (given_is width view unit is)),
     )
 
     -- and the matches of what was read
@@ -214,61 +305,90 @@ module _ {V : Type 0} (width : ℕ → ℕ) (wide : (u : ℕ) → 1 ≤ width u)
       leftmost_from width view.content from (cond s.skips 1 0) s.after ((is.w ++ is.ahead) ++ []),
       ap (leftmost width view.content) (sym (append-nil s.seen.since))
           ∙ is.left [] (λ _. refl)
-          ∙ ap (λ y. y ++ leftmost_from width view.content from (cond s.skips 1 0) s.after ((is.w ++ is.ahead) ++ [])) (sym (given_is width view unit is)),
+          ∙ ap (λ y. y ++ leftmost_from width view.content from (cond s.skips 1 0) s.after ((is.w ++ is.ahead) ++ []))
+          (sym (given_is width view unit is)),
     )
 
     module _ (all : s.walked ≡ length s.ring.items) where
       -- nothing waits where nothing is decided
       pub is_quiet : s.scan.decided ≡ false → waits s.scan.decided s.walked (length s.ring.items) ≡ false
-      is_quiet open_yet = ap (λ b. waits b s.walked (length s.ring.items)) open_yet ∙ le-ltb s.walked (length s.ring.items) (omega (arith, all))
+      is_quiet open_yet =
+          ap (λ b. waits b s.walked (length s.ring.items)) open_yet ∙ le-ltb s.walked (length s.ring.items) (omega (arith, all))
 
       -- without a best all matches were given
       none_left : s.scan.best ≡ None → leftmost width view.content s.seen.since ≡ is.gave
       none_left none =
           ap (leftmost width view.content) (sym (append-nil s.seen.since))
           ∙ is.left [] (λ _. refl)
-          ∙ ap (λ y. is.gave ++ leftmost_from width view.content from (cond s.skips 1 0) s.after y) (append-nil (is.w ++ is.ahead) ∙ ap (λ y. is.w ++ y) (none_ahead all) ∙ append-nil is.w)
+          ∙ ap (λ y. is.gave ++ leftmost_from width view.content from (cond s.skips 1 0) s.after y)
+          (append-nil (is.w ++ is.ahead) ∙ ap (λ y. is.w ++ y) (none_ahead all) ∙ append-nil is.w)
           ∙ ap (λ y. is.gave ++ y) (by s.skips is.stands)
           ∙ append-nil is.gave
         where
-          by : (b : Bool) → Stands width view b from is.w s.scan is.behind → leftmost_from width view.content from (cond b 1 0) s.after is.w ≡ []
+          by : (b : Bool) → Stands width view b from is.w s.scan is.behind
+              → leftmost_from width view.content from (cond b 1 0) s.after is.w ≡ []
           by true idle = ap (λ y. leftmost_from width view.content from 1 s.after y) idle.none_read
           by false scan =
-              let P : Option Pending → Type 0 = λ o. IsPendingSoFar width view from is.w (view.text s.scan.state) o s.scan.decided is.behind in
+              let P : Option Pending
+              → Type 0 = λ o. IsPendingSoFar width view from is.w (view.text s.scan.state) o s.scan.decided is.behind in
               gives_none width view.content from s.after is.w (subst P none scan.pending).0
 
       pub all_given : s.scan.best ≡ None → given_of width view.content s ≡ leftmost width view.content s.seen.since
       all_given none = given_is width view unit is ∙ sym (none_left none)
 
       -- no more matches are certain than were given
-      no_more : s.scan.decided ≡ false → s.ended ≡ false → (ns : List (Match V)) → BeginEach width view.content s.seen.since ns → (rest : List (Match V)) × (is.gave ≡ ns ++ rest)
+      no_more : s.scan.decided ≡ false → s.ended ≡ false → (ns : List (Match V)) → BeginEach width view.content s.seen.since ns
+          → (rest : List (Match V)) × (is.gave ≡ ns ++ rest)
       no_more undecided open_yet ns each = by s.scan.best refl
         where
-          whole : s.skips ≡ false → (d : List ℕ) → leftmost width view.content (s.seen.since ++ d) ≡ is.gave ++ leftmost_from width view.content from 0 s.after (is.w ++ d)
+          whole : s.skips ≡ false → (d : List ℕ)
+              → leftmost width view.content (s.seen.since ++ d) ≡ is.gave ++ leftmost_from width view.content from 0 s.after (is.w ++ d)
           whole scans d =
               is.left d (λ over. absurd (let bad : true ≡ false = sym over ∙ open_yet in cc))
               ∙ ap (λ b. is.gave ++ leftmost_from width view.content from (cond b 1 0) s.after ((is.w ++ is.ahead) ++ d)) scans
-              ∙ ap (λ y. is.gave ++ leftmost_from width view.content from 0 s.after (y ++ d)) (ap (λ y. is.w ++ y) (none_ahead all) ∙ append-nil is.w)
+              ∙ ap (λ y. is.gave ++ leftmost_from width view.content from 0 s.after (y ++ d))
+              (ap (λ y. is.w ++ y) (none_ahead all) ∙ append-nil is.w)
 
           by : (best : Option Pending) → s.scan.best ≡ best → (rest : List (Match V)) × (is.gave ≡ ns ++ rest)
-          by None none = let first = each [] in (first.0, sym (none_left none) ∙ ap (leftmost width view.content) (sym (append-nil s.seen.since)) ∙ first.1)
+          by None none =
+              let first = each [] in (
+                first.0,
+                sym (none_left none) ∙ ap (leftmost width view.content) (sym (append-nil s.seen.since)) ∙ first.1,
+              )
           by (Some at) some =
               let here = now width wide view unit is at some in
               let t = view.text s.scan.state in
               let S : Bool → Type 0 = λ b. Stands width view b from is.w s.scan is.behind in
               let scan : IsScan width view from is.w s.scan is.behind = subst S here.scans is.stands in
-              let apart = goes_apart width wide view.content from s.after is.w t here.pending.front here.pending.key (scan.steady undecided) (here.pending.child undecided) here.pending.best in
+              let apart = goes_apart width wide view.content from s.after is.w t here.pending.front here.pending.key (scan.steady undecided)
+              (here.pending.child undecided) here.pending.best in
               let first = each [] in let other = each apart.0 in
-              begins_both is.gave ns first.0 other.0 (leftmost_from width view.content from 0 s.after is.w) (leftmost_from width view.content from 0 s.after (is.w ++ apart.0))
-              (ap (λ y. is.gave ++ leftmost_from width view.content from 0 s.after y) (sym (append-nil is.w)) ∙ sym (whole here.scans []) ∙ first.1) (sym (whole here.scans apart.0) ∙ other.1) apart.1
+              begins_both is.gave ns first.0 other.0 (leftmost_from width view.content from 0 s.after is.w)
+              (leftmost_from width view.content from 0 s.after (is.w ++ apart.0))
+              (ap (λ y. is.gave ++ leftmost_from width view.content from 0 s.after y) (sym (append-nil is.w)) ∙ sym (whole here.scans [])
+              ∙ first.1) (sym (whole here.scans apart.0) ∙ other.1) apart.1
 
-      pub are_certain : s.scan.decided ≡ false → s.ended ≡ false → AreCertain width view.content s.seen.since (given_of width view.content s)
-      are_certain undecided open_yet = (begin_each open_yet, λ ns each. (let more = no_more undecided open_yet ns each in (more.0, given_is width view unit is ∙ more.1)))
+      pub are_certain : s.scan.decided ≡ false → s.ended ≡ false
+          → AreCertain width view.content s.seen.since (given_of width view.content s)
+      are_certain undecided open_yet = (
+        begin_each open_yet,
+        λ ns each.
+            (let more = no_more undecided open_yet ns each in (more.0, given_is width view unit is ∙ more.1)),
+      )
 
-    pub within : (m : ℕ) → HasNoLongerKey view.content m → s.turns ≤ 2 * length s.seen.since + 4 * (m * length (given_of width view.content s))
+    pub within : (m : ℕ) → HasNoLongerKey view.content m
+        → s.turns ≤ 2 * length s.seen.since + 4 * (m * length (given_of width view.content s))
     within m bound =
         let count : length (given_of width view.content s) ≡ s.seen.given = ap length (given_is width view unit is) ∙ is.counted in
-        omega (arith, is.most m bound, over_few s.skips is.ahead, ap (λ k. m * k) count, ap length is.parts, length-append is.passed (is.w ++ is.ahead), length-append is.w is.ahead)
+        omega (
+          arith,
+          is.most m bound,
+          over_few s.skips is.ahead,
+          ap (λ k. m * k) count,
+          ap length is.parts,
+          length-append is.passed (is.w ++ is.ahead),
+          length-append is.w is.ahead,
+        )
 
     -- where nothing waits, all units were looked at
     pub looks : waits s.scan.decided s.walked (length s.ring.items) ≡ false → LooksAtKeys view s.seen.since s.seen.since s.turns

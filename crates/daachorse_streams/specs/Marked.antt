@@ -28,5 +28,7 @@ BeginsReadingLeftmost a reader option search =
     BeginsStreaming a option search.stream × (search.source ≡ Some (to_read reader)) × (search.over ≡ false)
 
 -- in what a reader gives by blocks; `known` is what it has left, if that is known
-abbrev pub BeginsLeftmostInBlocks : {V A R Z : Type 0} → (R → Option (List ℕ)) → A → R → Bool → LeftmostReading V A (Reading (BufReader R Z)) → Type 0
-BeginsLeftmostInBlocks {R = R} {Z = Z} known a reader option search = (blocks : BufReader R Z) × IsInBlocks known reader blocks × BeginsReadingLeftmost a blocks option search
+abbrev pub BeginsLeftmostInBlocks : {V A R Z : Type 0} → (R → Option (List ℕ)) → A → R → Bool
+    → LeftmostReading V A (Reading (BufReader R Z)) → Type 0
+BeginsLeftmostInBlocks {R = R} {Z = Z} known a reader option search = (blocks : BufReader R Z) × IsInBlocks known reader blocks
+    × BeginsReadingLeftmost a blocks option search

@@ -14,7 +14,8 @@ module _ {V : Type 0} (with : Match V → List ℕ) (bytes : List ℕ) where
   with_replacements ms = with_replacements_from 0 ms
 
 module _ {V : Type 0} (bytes : List ℕ) where
-  -- what comes of the bytes from s on, where these matches are left and these pieces stand in their place; it ends before a match that has no piece
+  -- what comes of the bytes from s on, where these matches are left and these pieces stand in their place; it ends before a match that has
+  -- no piece
   abbrev pub with_pieces_from : ℕ → List (Match V) → List (List ℕ) → List ℕ
   with_pieces_from s [] ps = drop s bytes
   with_pieces_from s (m ∷ ms) [] = slice_range bytes s m.start
@@ -37,7 +38,8 @@ module _ {V P : Type 0} (bytes : P → List ℕ) (haystack : List ℕ) (gives : 
 
   -- Q of the haystack with each of these matches replaced by what the replacement gave for it
   abbrev pub OfReplaced : List (Match V) → (List ℕ → Type 0) → Type 0
-  OfReplaced matches Q = (given : List P) × AreGiven matches given × (length given ≡ length matches) × Q (with_pieces haystack matches (map bytes given))
+  OfReplaced matches Q =
+      (given : List P) × AreGiven matches given × (length given ≡ length matches) × Q (with_pieces haystack matches (map bytes given))
 
   -- Q of the same up to a match for which the replacement gave nothing yet
   abbrev pub OfReplacedSoFar : List (Match V) → (List ℕ → Type 0) → Type 0

@@ -42,7 +42,8 @@ pub record IsSettled {V A : Type 0} (width : ℕ → ℕ) (K : Dictionary V) (ol
   pub all : new.ended ≡ true → new.given ≡ leftmost width K new.read
 
 -- So many bytes of a block that comes next were read. No match begins in them, and none before them is left to give.
-pub record HasSkipped {V A : Type 0} (width : ℕ → ℕ) (K : Dictionary V) (old : LeftmostStreamed V A) (block : List ℕ) (bytes : ℕ) (new : LeftmostStreamed V A) : Type 0 where
+pub record HasSkipped {V A : Type 0} (width : ℕ → ℕ) (K : Dictionary V) (old : LeftmostStreamed V A) (block : List ℕ) (bytes : ℕ)
+    (new : LeftmostStreamed V A) : Type 0 where
   pub front : List ℕ
   pub back : List ℕ
   pub parts : block ≡ front ++ back

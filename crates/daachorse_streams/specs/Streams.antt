@@ -1,5 +1,29 @@
 -- What comes of a stream: what a source gave, with each match replaced by what a call appends to an output.
-use Rattle.std.specs.Prelude.{◌≡◌, ◌≢◌, ◌⊎◌, ℕ, ◌+◌, ◌-◌, ◌≤◌, List, [], ◌++◌, drop, take, length, map, flat_map, All, Option, Some, None, IfSome, Result, Ok, Err}
+use Rattle.std.specs.Prelude.{
+  ◌≡◌,
+  ◌≢◌,
+  ◌⊎◌,
+  ℕ,
+  ◌+◌,
+  ◌-◌,
+  ◌≤◌,
+  List,
+  [],
+  ◌++◌,
+  drop,
+  take,
+  length,
+  map,
+  flat_map,
+  All,
+  Option,
+  Some,
+  None,
+  IfSome,
+  Result,
+  Ok,
+  Err,
+}
 use Rattle.std.specs.Borrow.{MutBor}
 use Rattle.std.specs.Io.KnownBytes.{Appends}
 use Rattle.std.specs.IoError.{error_kind}
@@ -11,7 +35,15 @@ use Rattle.daachorse_model.specs.Dictionary.{Dictionary}
 use Rattle.daachorse_model.specs.Laws.{Follows}
 use Rattle.daachorse_model.specs.Units.{size}
 use Rattle.daachorse_streams.specs.Replaced.{AppendsPart}
-use Rattle.daachorse_streams.specs.ReplacedWith.{IsReplaced, IsReplacedFrom, IsReplacedSoFar, IsReplacedSoFarFrom, IsStopped, IsStoppedFrom, MayWriteFor}
+use Rattle.daachorse_streams.specs.ReplacedWith.{
+  IsReplaced,
+  IsReplacedFrom,
+  IsReplacedSoFar,
+  IsReplacedSoFarFrom,
+  IsStopped,
+  IsStoppedFrom,
+  MayWriteFor,
+}
 
 -- no key takes more bytes
 abbrev pub HasNoLonger : {V : Type 0} → (ℕ → ℕ) → Dictionary V → ℕ → Type 0
@@ -52,27 +84,36 @@ module _ {S U : Type 0} (steps : S → Option U → S → Type 0) (failure : S �
   abbrev pub FailsWith : Error → S → Type 0
   FailsWith e s = (ended : S) × steps s None ended × (failure ended ≡ Some e)
 
-module _ {V P O E F : Type 0} (bytes : P → List ℕ) (taken : O → Option (List ℕ)) (step : F → Match V → P → MutBor O → Result (Unit {0}) E → MutBor O → F → Type 0) where
-  -- Of the bytes held, what no later match may need went out. With no match, n of them did. With one, the bytes before it did, its call was made, and none stay.
+module _ {V P O E F : Type 0} (bytes : P → List ℕ) (taken : O → Option (List ℕ))
+    (step : F → Match V → P → MutBor O → Result (Unit {0}) E → MutBor O → F → Type 0) where
+  -- Of the bytes held, what no later match may need went out. With no match, n of them did. With one, the bytes before it did, its call was
+  -- made, and none stay.
   abbrev pub Settles : ℕ → Option (Match V) → List ℕ → F → O → List ℕ → F → O → Type 0
   Settles longest None held f old rest g new =
       (n : ℕ) × GoesOutSettled taken longest n held old rest new × (g ≡ f)
   Settles longest (Some m) held f old rest g new =
-      (at : O) × Appends (taken old) (taken at) (take (before_match held m) held) × MayWriteFor bytes step f m (drop (before_match held m) held) at (Ok tt) new g × (rest ≡ [])
+      (at : O) × Appends (taken old) (taken at) (take (before_match held m) held)
+      × MayWriteFor bytes step f m (drop (before_match held m) held) at (Ok tt) new g × (rest ≡ [])
 
   -- the same where it stopped with this error: the output refused some bytes, or the call returned the error
   abbrev pub SettlesSoFar : E → ℕ → Option (Match V) → List ℕ → F → O → O → Type 0
   SettlesSoFar e longest None held f old new = (n : ℕ) × (n + longest ≤ length held) × AppendsPart (taken old) (taken new) (take n held)
   SettlesSoFar e longest (Some m) held f old new =
       AppendsPart (taken old) (taken new) (take (before_match held m) held)
-      ⊎ ((at : O) × (g : F) × Appends (taken old) (taken at) (take (before_match held m) held) × MayWriteFor bytes step f m (drop (before_match held m) held) at (Err e) new g)
+      ⊎ ((at : O) × (g : F) × Appends (taken old) (taken at) (take (before_match held m) held)
+      × MayWriteFor bytes step f m (drop (before_match held m) held) at (Err e) new g)
 
   module _ (first : F) (old : O) where
     -- From f and this output at s on, whatever comes of more matches and more bytes comes of those before and more from the start.
     pub record LeadsOn (text : List ℕ) (done : List (Match V)) (s : ℕ) (f : F) (out : O) : Type 0 where
-      pub all : (more : List ℕ) (ms : List (Match V)) (new : O) → Follows s ms → IsReplacedFrom bytes taken (text ++ more) step s ms f out new → IsReplaced bytes taken (text ++ more) step (done ++ ms) first old new
-      pub some : (more : List ℕ) (ms : List (Match V)) (new : O) → Follows s ms → IsReplacedSoFarFrom bytes taken (text ++ more) step s ms f out new → IsReplacedSoFar bytes taken (text ++ more) step (done ++ ms) first old new
-      pub stops : (e : E) (more : List ℕ) (ms : List (Match V)) (new : O) → Follows s ms → IsStoppedFrom bytes taken (text ++ more) step e s ms f out new
+      pub all : (more : List ℕ) (ms : List (Match V)) (new : O) → Follows s ms
+          → IsReplacedFrom bytes taken (text ++ more) step s ms f out new
+          → IsReplaced bytes taken (text ++ more) step (done ++ ms) first old new
+      pub some : (more : List ℕ) (ms : List (Match V)) (new : O) → Follows s ms
+          → IsReplacedSoFarFrom bytes taken (text ++ more) step s ms f out new
+          → IsReplacedSoFar bytes taken (text ++ more) step (done ++ ms) first old new
+      pub stops : (e : E) (more : List ℕ) (ms : List (Match V)) (new : O) → Follows s ms
+          → IsStoppedFrom bytes taken (text ++ more) step e s ms f out new
           → IsStopped bytes taken (text ++ more) step e (done ++ ms) first old new
 
     -- Of this text the bytes from a place on are held. Those before went out, with these matches replaced.
@@ -92,7 +133,8 @@ module _ {V P O E F : Type 0} (bytes : P → List ℕ) (taken : O → Option (Li
       pub replaced : IsReplaced bytes taken front step done f old new
       pub certain : (more : X) → (rest : List (Match V)) × (matches more ≡ done ++ rest) × Follows (length front) rest
 
-  module _ {S U : Type 0} (steps : S → Option U → S → Type 0) (failure : S → Option Error) (unit : U → ℕ) (form : U → List ℕ) (matches : List ℕ → List (Match V)) where
+  module _ {S U : Type 0} (steps : S → Option U → S → Type 0) (failure : S → Option Error) (unit : U → ℕ) (form : U → List ℕ)
+      (matches : List ℕ → List (Match V)) where
     -- the source came to its end, and the bytes of what it gave went to the output with each match replaced
     pub record IsStreamed (s : S) (f : F) (old new : O) : Type 0 where
       pub units : List U
@@ -112,8 +154,10 @@ module _ {V P O E F : Type 0} (bytes : P → List ℕ) (taken : O → Option (Li
     abbrev pub StopsAmong : E → List U → F → O → O → Type 0
     StopsAmong e units f old new = IsStopped bytes taken (flat_map form units) step e (matches (map unit units)) f old new
 
-module _ {V P O F S U : Type 0} (bytes : P → List ℕ) (taken : O → Option (List ℕ)) (step : F → Match V → P → MutBor O → Result (Unit {0}) Error → MutBor O → F → Type 0)
-    (steps : S → Option U → S → Type 0) (failure : S → Option Error) (unit : U → ℕ) (form : U → List ℕ) (matches : List ℕ → List (Match V)) where
+module _ {V P O F S U : Type 0} (bytes : P → List ℕ) (taken : O → Option (List ℕ))
+    (step : F → Match V → P → MutBor O → Result (Unit {0}) Error → MutBor O → F → Type 0)
+    (steps : S → Option U → S → Type 0) (failure : S → Option Error) (unit : U → ℕ) (form : U → List ℕ)
+    (matches : List ℕ → List (Match V)) where
   -- Why a stream stopped with this error, after the source gave these units. The source failed with it, or an allocation failed:
   -- what went out is right however the source goes on, and no more bytes are held back than the longest key and a block have.
   -- Or the output refused some of the bytes that were to go out, or a call returned the error: however the source goes on, or at its end.
@@ -129,7 +173,8 @@ module _ {V P O F S U : Type 0} (bytes : P → List ℕ) (taken : O → Option (
         ⊎ (((more : List U) → StopsAmong bytes taken step unit form matches e (units ++ more) f old new)
         ⊎ (IsAtWholeEnd steps failure last × StopsAmong bytes taken step unit form matches e units f old new))
 
-module _ {V P O E F : Type 0} (bytes : P → List ℕ) (taken : O → Option (List ℕ)) (step : F → Match V → P → MutBor O → Result (Unit {0}) E → MutBor O → F → Type 0) where
+module _ {V P O E F : Type 0} (bytes : P → List ℕ) (taken : O → Option (List ℕ))
+    (step : F → Match V → P → MutBor O → Result (Unit {0}) E → MutBor O → F → Type 0) where
   module _ (is_unit : ℕ → Type 0) (spelled : List ℕ → List ℕ) (known : Option (List ℕ)) (matches : List ℕ → List (Match V)) where
     -- units whose bytes are all that a reader had left, where that is known, went to the output with each match replaced
     pub record IsReadReplaced (f : F) (old new : O) : Type 0 where
@@ -147,7 +192,8 @@ module _ {V P O E F : Type 0} (bytes : P → List ℕ) (taken : O → Option (Li
     StopsAmongRead e units f old new = IsStopped bytes taken (spelled units) step e (matches units) f old new
 
     module _ (no_longer : ℕ → Type 0) where
-      -- The bytes of these units are a beginning of that. The reader or an allocation failed: what went out is right however the reader goes on,
+      -- The bytes of these units are a beginning of that. The reader or an allocation failed: what went out is right however the reader
+      -- goes on,
       -- and no more bytes are held back than the longest key and a block have. Or the output refused some of the bytes that were to go out,
       -- or a call returned the error: however the reader goes on, or at its end.
       pub record IsReadReplacedSoFar (e : E) (f : F) (old new : O) : Type 0 where

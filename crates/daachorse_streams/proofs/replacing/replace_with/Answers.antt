@@ -23,12 +23,15 @@ part-matched-requires-clause-ends g c =
 pub returns-in_err-append-clause-beginning : goal.returns-in_err-append-clause-beginning
 returns-in_err-append-clause-beginning g c =
     let p = err_from_is_err_and c.from_residual.result c.from_residual.ensures.1 in
-    rw p.1 (stops_before c.loop-found.invariant.leads c.in-Some.found c.next.new.self c.in-Some.ensures.steps _ (subst (AppendsBeginning _ _) c.part.ensures c.in_err-append.ensures.beginning))
+    rw p.1 (stops_before c.loop-found.invariant.leads c.in-Some.found c.next.new.self c.in-Some.ensures.steps _
+    (subst (AppendsBeginning _ _) c.part.ensures c.in_err-append.ensures.beginning))
 
 pub returns-in_err-write-clause-beginning : goal.returns-in_err-write-clause-beginning
 returns-in_err-write-clause-beginning g c =
     let p = err_from_is_err_and c.from_residual-in_err-write.result c.from_residual-in_err-write.ensures.1 in
-    rw p.1 (stops_at c.loop-found.invariant.leads c.in-Some.found c.next.new.self c.in-Some.ensures.steps _ _ _ _ (subst (Appends _ _) c.part.ensures c.in_ok-append.ensures.whole) (_, _, _, c.part-matched.ensures, refl, refl, c.in_err-write.ensures))
+    rw p.1 (stops_at c.loop-found.invariant.leads c.in-Some.found c.next.new.self c.in-Some.ensures.steps _ _ _ _
+    (subst (Appends _ _) c.part.ensures c.in_ok-append.ensures.whole)
+    (_, _, _, c.part-matched.ensures, refl, refl, c.in_err-write.ensures))
 
 pub loop-found-preserved : goal.loop-found-preserved
 loop-found-preserved g c = record {
@@ -37,14 +40,19 @@ loop-found-preserved g c = record {
       let P : List (Match g.row.V.Denot) → Type 0 = λ l. AreParts (g.P.Piece.may_cut c.args.haystack) c.loop-found.written l in
       (subst P c.in-Some.ensures.steps c.loop-found.invariant.parts).4;
   leads =
-      leads_on c.loop-found.invariant.leads c.in-Some.found c.next.new.self c.in-Some.ensures.steps _ _ _ (subst (Appends _ _) c.part.ensures c.in_ok-append.ensures.whole)
+      leads_on c.loop-found.invariant.leads c.in-Some.found c.next.new.self c.in-Some.ensures.steps _ _ _
+      (subst (Appends _ _) c.part.ensures c.in_ok-append.ensures.whole)
       (_, _, _, c.part-matched.ensures, refl, refl, c.in_ok-write.ensures);
 }
 
 pub returns : goal.returns
 returns g c = record {
   whole =
-      on_ok_weaker c.append-2.result (λ piece. ends c.loop-found.invariant.leads c.in-None.ensures.steps.0 c.end.result _ c.end.ensures.end (subst (Appends _ _) c.part-2.ensures piece)) c.append-2.ensures.whole;
+      on_ok_weaker c.append-2.result
+      (λ piece. ends c.loop-found.invariant.leads c.in-None.ensures.steps.0 c.end.result _ c.end.ensures.end
+      (subst (Appends _ _) c.part-2.ensures piece)) c.append-2.ensures.whole;
   beginning =
-      on_err_weaker c.append-2.result (λ piece. stops_behind c.loop-found.invariant.leads c.in-None.ensures.steps.0 c.end.result _ c.end.ensures.end (subst (AppendsBeginning _ _) c.part-2.ensures piece)) c.append-2.ensures.beginning;
+      on_err_weaker c.append-2.result
+      (λ piece. stops_behind c.loop-found.invariant.leads c.in-None.ensures.steps.0 c.end.result _ c.end.ensures.end
+      (subst (AppendsBeginning _ _) c.part-2.ensures piece)) c.append-2.ensures.beginning;
 }

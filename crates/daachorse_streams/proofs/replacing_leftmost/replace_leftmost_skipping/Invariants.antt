@@ -14,8 +14,10 @@ invariant-units g l =
       folds : l.stream.folds ≡ l.fn.folds;
       may : MayReadOn g.S.Source.may_read l.stream (Some l.source);
       passes : (w : List ℕ) → g.A.Unit.BlockUnit.passes l.skipping w ≡ g.A.Unit.BlockUnit.passes l.fn.skipping w;
-      goes : Goes {P = Bor (List ℕ)} (λ s. s.now) g.O.Write.contents (goal.F-step g) l.fn.write l.fn.out S.can_next S.next_gives S.remaining g.S.ReadSource.failure label.unit label.form label.width
-          (g.A.Automaton.sees l.fn.automaton).content l.fn.folds l.fn.source l.stream.read l.stream.given l.source l.held.place l.held.bytes.items l.write l.out;
+      goes : Goes {P = Bor (List ℕ)} (λ s. s.now) g.O.Write.contents (goal.F-step g) l.fn.write l.fn.out S.can_next S.next_gives S.remaining
+          g.S.ReadSource.failure label.unit label.form label.width
+          (g.A.Automaton.sees l.fn.automaton).content l.fn.folds l.fn.source l.stream.read l.stream.given l.source l.held.place
+          l.held.bytes.items l.write l.out;
     }
 
 abbrev pub decreases-units : goal.decreases-units

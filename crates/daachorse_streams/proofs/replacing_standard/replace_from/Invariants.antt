@@ -11,8 +11,10 @@ invariant-units g l =
       callable : goal.F-IsAlwaysCallable g l.write;
       automaton : l.stepper.automaton ≡ l.fn.automaton;
       folds : l.stepper.folds ≡ l.fn.folds;
-      goes : Goes {P = Bor (List ℕ)} (λ s. s.now) g.O.Write.contents (goal.F-step g) l.fn.write l.fn.out S.can_next S.next_gives S.remaining g.S.ReadSource.failure label.unit label.form label.width
-          (g.A.Automaton.sees l.fn.automaton).content l.fn.longest l.fn.folds l.fn.source l.stepper.read l.source l.held.items l.write l.out;
+      goes : Goes {P = Bor (List ℕ)} (λ s. s.now) g.O.Write.contents (goal.F-step g) l.fn.write l.fn.out S.can_next S.next_gives S.remaining
+          g.S.ReadSource.failure label.unit label.form label.width
+          (g.A.Automaton.sees l.fn.automaton).content l.fn.longest l.fn.folds l.fn.source l.stepper.read l.source l.held.items l.write
+          l.out;
     }
 
 abbrev pub decreases-units : goal.decreases-units

@@ -19,7 +19,8 @@ returns-in_err-write-clause-stops g c =
     let held = c.args.held.now.items in let m = c.in-Some.found in
     let count : c.len.result - (m.end - m.start) ≡ before_match held m = omega (arith, c.len.ensures, c.args.held.now.ok.0) in
     let Went : ℕ → Type 0 = λ n. Appends (g.O.Write.contents c.args.out.now) (g.O.Write.contents c.put_out.new.out) (take n held) in
-    let matched : c.deref.result.now ≡ drop (before_match held m) held = c.deref.ensures.value ∙ c.in_ok-put_out.ensures.held ∙ ap (λ n. drop n held) count in
+    let matched : c.deref.result.now ≡ drop (before_match held m) held = c.deref.ensures.value ∙ c.in_ok-put_out.ensures.held
+    ∙ ap (λ n. drop n held) count in
     let call = answered (given.F-step g) p.2 c.in_err-write.ensures in
     rw p.1 (rw c.in-Some.is (inr (_, _, subst Went count c.in_ok-put_out.ensures.whole, (_, _, _, matched, refl, refl, call))))
 
@@ -28,5 +29,7 @@ returns-clause-whole g c =
     let held = c.args.held.now.items in let m = c.in-Some.found in
     let count : c.len.result - (m.end - m.start) ≡ before_match held m = omega (arith, c.len.ensures, c.args.held.now.ok.0) in
     let Went : ℕ → Type 0 = λ n. Appends (g.O.Write.contents c.args.out.now) (g.O.Write.contents c.put_out.new.out) (take n held) in
-    let matched : c.deref.result.now ≡ drop (before_match held m) held = c.deref.ensures.value ∙ c.in_ok-put_out.ensures.held ∙ ap (λ n. drop n held) count in
-    rw c.in-Some.is (_, subst Went count c.in_ok-put_out.ensures.whole, (_, _, _, matched, refl, refl, c.in_ok-write.ensures), c.clear.ensures.items)
+    let matched : c.deref.result.now ≡ drop (before_match held m) held = c.deref.ensures.value ∙ c.in_ok-put_out.ensures.held
+    ∙ ap (λ n. drop n held) count in
+    rw c.in-Some.is
+    (_, subst Went count c.in_ok-put_out.ensures.whole, (_, _, _, matched, refl, refl, c.in_ok-write.ensures), c.clear.ensures.items)

@@ -9,11 +9,21 @@ use Rattle.daachorse_bytewise.proofs.bytewise.AhoCorasick.matches_by_kind.Goals 
 pub returns-in-Standard : goal.returns-in-Standard
 returns-in-Standard g c =
     let a = c.args.self.now in
-    let all = c.standard.ensures ∙ c.find_iter.ensures.begins.left ∙ standard_named byte_width (g.S.Searched.dictionary a) c.match_kind.result (g.S.Searched.kind a) (as_read (g.S.Searched.folds a) c.args.haystack.now) c.in-Standard.is c.match_kind.ensures in
-    record { left = all; parts = parts_of_bytes (g.S.Searched.dictionary a) (g.S.Searched.folds a) (g.S.Searched.kind a) c.args.haystack.now _ all }
+    let all = c.standard.ensures ∙ c.find_iter.ensures.begins.left
+    ∙ standard_named byte_width (g.S.Searched.dictionary a) c.match_kind.result (g.S.Searched.kind a)
+    (as_read (g.S.Searched.folds a) c.args.haystack.now) c.in-Standard.is c.match_kind.ensures in
+    record {
+      left = all;
+      parts = parts_of_bytes (g.S.Searched.dictionary a) (g.S.Searched.folds a) (g.S.Searched.kind a) c.args.haystack.now _ all;
+    }
 
 pub returns-in-LeftmostLongest : goal.returns-in-LeftmostLongest
 returns-in-LeftmostLongest g c =
     let a = c.args.self.now in
-    let all = c.leftmost.ensures ∙ c.leftmost_find_iter.ensures.begins.left ∙ leftmost_named byte_width (g.S.Searched.dictionary a) c.match_kind.result (g.S.Searched.kind a) (as_read (g.S.Searched.folds a) c.args.haystack.now) c.in-LeftmostLongest.is c.match_kind.ensures in
-    record { left = all; parts = parts_of_bytes (g.S.Searched.dictionary a) (g.S.Searched.folds a) (g.S.Searched.kind a) c.args.haystack.now _ all }
+    let all = c.leftmost.ensures ∙ c.leftmost_find_iter.ensures.begins.left
+    ∙ leftmost_named byte_width (g.S.Searched.dictionary a) c.match_kind.result (g.S.Searched.kind a)
+    (as_read (g.S.Searched.folds a) c.args.haystack.now) c.in-LeftmostLongest.is c.match_kind.ensures in
+    record {
+      left = all;
+      parts = parts_of_bytes (g.S.Searched.dictionary a) (g.S.Searched.folds a) (g.S.Searched.kind a) c.args.haystack.now _ all;
+    }

@@ -14,13 +14,16 @@ use Rattle.daachorse_c.proofs.searching.Search.replace.Goals as goal
 
 pub loop-found-init : goal.loop-found-init
 loop-found-init c =
-    let a = searched c.args.self.now in let h = haystack_of c.args.self.now in let bytes = c.args.texts.bytes.now in let ends = c.args.texts.ends.now in
+    let a = searched c.args.self.now in let h = haystack_of c.args.self.now in let bytes = c.args.texts.bytes.now in
+    let ends = c.args.texts.ends.now in
     let reads : Reads a h = subst (Reads a) c.bytes-haystack.ensures.bytes c.bytes-haystack.ensures.text in
     let whole = left_whole a h in
     record {
       within = begins a h reads;
       parts = left_parts a h reads;
-      begun = subst (λ ms. IsBegun (replaced_by bytes ends h a) (with_replacements_from (replacement bytes ends h) h 0 ms) c.args.out.now c.args.out.now 0) (sym whole) (begun_nothing (replaced_by bytes ends h a) c.args.out.now);
+      begun = subst
+          (λ ms. IsBegun (replaced_by bytes ends h a) (with_replacements_from (replacement bytes ends h) h 0 ms) c.args.out.now
+          c.args.out.now 0) (sym whole) (begun_nothing (replaced_by bytes ends h a) c.args.out.now);
     }
 
 pub loop-found-smaller : goal.loop-found-smaller
@@ -30,7 +33,11 @@ pub slice_bounds-matched-end : goal.slice_bounds-matched-end
 slice_bounds-matched-end c =
     let h = haystack_of c.args.self.now in let m = c.in-Some.found in
     let parts = subst (AreParts (λ i. i ≤ length h) c.loop-found.behind) c.in-Some.ensures.some c.loop-found.invariant.parts in
-    omega (arith, ap length c.bytes-haystack.ensures.bytes, parts_here (λ i. i ≤ length h) m.end (left_of (searched c.args.self.now) h c.next_match.new.place) parts.4)
+    omega (
+      arith,
+      ap length c.bytes-haystack.ensures.bytes,
+      parts_here (λ i. i ≤ length h) m.end (left_of (searched c.args.self.now) h c.next_match.new.place) parts.4,
+    )
 
 -- the bytes grow a text that stands in front
 abbrev Puts : List ℕ → ℕ → ℕ → List ℕ → List ℕ → Type 0
@@ -38,11 +45,16 @@ Puts bytes size more old new = (text first : List ℕ) → IsCut text first old 
 
 pub loop-found-preserved : goal.loop-found-preserved
 loop-found-preserved c =
-    let a = searched c.args.self.now in let h = haystack_of c.args.self.now in let bytes = c.args.texts.bytes.now in let ends = c.args.texts.ends.now in
-    let r = replacement bytes ends h in let m = c.in-Some.found in let rest = with_replacements_from r h m.end (left_of a h c.next_match.new.place) in
-    let from = λ (ms : List (Match ℕ)). IsBegun (replaced_by bytes ends h a) (with_replacements_from r h c.loop-found.behind ms) c.args.out.now c.loop-found.out c.loop-found.size in
-    let before = begun_more (slice_range h c.loop-found.behind m.start) (r m ++ rest) (subst from c.in-Some.ensures.some c.loop-found.invariant.begun)
-    (subst (λ x. Puts (slice_range x c.loop-found.behind m.start) c.loop-found.size c.put-size.result c.loop-found.out c.put-size.new.out) c.bytes-haystack.ensures.bytes c.put-size.ensures) in
+    let a = searched c.args.self.now in let h = haystack_of c.args.self.now in let bytes = c.args.texts.bytes.now in
+    let ends = c.args.texts.ends.now in
+    let r = replacement bytes ends h in let m = c.in-Some.found in
+    let rest = with_replacements_from r h m.end (left_of a h c.next_match.new.place) in
+    let from = λ (ms : List (Match ℕ)). IsBegun (replaced_by bytes ends h a) (with_replacements_from r h c.loop-found.behind ms)
+    c.args.out.now c.loop-found.out c.loop-found.size in
+    let before = begun_more (slice_range h c.loop-found.behind m.start) (r m ++ rest)
+    (subst from c.in-Some.ensures.some c.loop-found.invariant.begun)
+    (subst (λ x. Puts (slice_range x c.loop-found.behind m.start) c.loop-found.size c.put-size.result c.loop-found.out c.put-size.new.out)
+    c.bytes-haystack.ensures.bytes c.put-size.ensures) in
     record {
       within = c.next_match.ensures.within;
       parts = (subst (AreParts (λ i. i ≤ length h) c.loop-found.behind) c.in-Some.ensures.some c.loop-found.invariant.parts).4;
@@ -51,6 +63,10 @@ loop-found-preserved c =
 
 pub returns : goal.returns
 returns c =
-    let a = searched c.args.self.now in let h = haystack_of c.args.self.now in let bytes = c.args.texts.bytes.now in let ends = c.args.texts.ends.now in
-    let from = λ (ms : List (Match ℕ)). IsBegun (replaced_by bytes ends h a) (with_replacements_from (replacement bytes ends h) h c.loop-found.behind ms) c.args.out.now c.loop-found.out c.loop-found.size in
-    all_begun (drop c.loop-found.behind h) (subst from c.in_default.ensures.none.0 c.loop-found.invariant.begun) (subst (λ x. Puts x c.loop-found.size c.put.result c.loop-found.out c.put.new.out) (take_rest _ c.loop-found.behind ∙ ap (drop c.loop-found.behind) c.bytes-haystack.ensures.bytes) c.put.ensures)
+    let a = searched c.args.self.now in let h = haystack_of c.args.self.now in let bytes = c.args.texts.bytes.now in
+    let ends = c.args.texts.ends.now in
+    let from = λ (ms : List (Match ℕ)). IsBegun (replaced_by bytes ends h a)
+    (with_replacements_from (replacement bytes ends h) h c.loop-found.behind ms) c.args.out.now c.loop-found.out c.loop-found.size in
+    all_begun (drop c.loop-found.behind h) (subst from c.in_default.ensures.none.0 c.loop-found.invariant.begun)
+    (subst (λ x. Puts x c.loop-found.size c.put.result c.loop-found.out c.put.new.out)
+    (take_rest _ c.loop-found.behind ∙ ap (drop c.loop-found.behind) c.bytes-haystack.ensures.bytes) c.put.ensures)

@@ -12,7 +12,8 @@ invariant-loop-found l =
     let a = searched l.self in let texts = l.texts in let h = haystack_of l.self in let left = left_of a h l.place in record {
       within : IsPlaceIn a h l.place.at;
       parts : AreParts (λ i. i ≤ length h) l.behind left;
-      begun : IsBegun (replaced_by texts.bytes.now texts.ends.now h a) (with_replacements_from (replacement texts.bytes.now texts.ends.now h) h l.behind left) l.fn.out l.out l.size;
+      begun : IsBegun (replaced_by texts.bytes.now texts.ends.now h a)
+          (with_replacements_from (replacement texts.bytes.now texts.ends.now h) h l.behind left) l.fn.out l.out l.size;
     }
 
 abbrev pub decreases-loop-found : goal.decreases-loop-found

@@ -6,4 +6,5 @@ use Rattle.daachorse_streams.proofs.appending.ToWriterAppending.append.Goals as 
 
 pub returns-clause-beginning : goal.returns-clause-beginning
 returns-clause-beginning g c =
-    on_err_weaker c.write_whole.result (λ left. subst (AppendsBeginning _ _) c.as_bytes.ensures (left.0, left.1, left.2, left.4)) c.write_whole.ensures.part
+    on_err_weaker c.write_whole.result (λ left. subst (AppendsBeginning _ _) c.as_bytes.ensures (left.0, left.1, left.2, left.4))
+    c.write_whole.ensures.part

@@ -14,11 +14,19 @@ use Rattle.daachorse_streams.proofs.block_source.U8BlockUnit.skip_front.Goals as
 
 pub skip-requires-clause-fits : goal.skip-requires-clause-fits
 skip-requires-clause-fits g c =
-    omega (arith, c.requires.fits, ap (size byte_width) c.new.ensures.bytes, size-bytes (as_read c.folds.result c.args.block.now), length-as_read c.folds.result c.args.block.now)
+    omega (
+      arith,
+      c.requires.fits,
+      ap (size byte_width) c.new.ensures.bytes,
+      size-bytes (as_read c.folds.result c.args.block.now),
+      length-as_read c.folds.result c.args.block.now,
+    )
 
 pub returns-clause-front : goal.returns-clause-front
 returns-clause-front g c =
-    let block = c.args.block.now in let s = c.args.stream.now in let t = c.skip.new.self in let K = (g.A.Automaton.sees s.automaton).content in let skips = c.skip.ensures in
+    let block = c.args.block.now in let s = c.args.stream.now in let t = c.skip.new.self in
+    let K = (g.A.Automaton.sees s.automaton).content in let skips = c.skip.ensures in
     let H : List ℕ → Type 0 = λ w. HasSkipped byte_width K s w c.skip.result t in
-    consumes-front g.A.Automaton.sees (λ b. ⊤) byte_width (λ b. b ∷ []) byte_as_wide byte_wide (λ b. refl) c.folds.result block block [] c.skip.result s t c.folds.ensures (λ k d inside. tt) (sym (append-nil _ ∙ bytes_are block)) skips.automaton skips.folds
+    consumes-front g.A.Automaton.sees (λ b. ⊤) byte_width (λ b. b ∷ []) byte_as_wide byte_wide (λ b. refl) c.folds.result block block []
+    c.skip.result s t c.folds.ensures (λ k d inside. tt) (sym (append-nil _ ∙ bytes_are block)) skips.automaton skips.folds
     (subst H c.new.ensures.bytes skips.skipped) skips.none skips.given (skips.ended ∙ sym c.requires.open)

@@ -21,13 +21,15 @@ pub returns-in_err-longest : goal.returns-in_err-longest
 returns-in_err-longest g c =
     let p = err_from_is_err_and c.from_residual.result c.from_residual.ensures.1 in
     let a = c.args.self.now.automaton in
-    rw p.1 (read-nothing _ g.O.Write.contents _ (λ byte. ⊤) (λ bytes. bytes) _ _ _ _ _ refl (λ units. non_overlapping_apart (kind_of a) byte_width (dictionary_of a) (as_read a.folds units)))
+    rw p.1 (read-nothing _ g.O.Write.contents _ (λ byte. ⊤) (λ bytes. bytes) _ _ _ _ _ refl
+    (λ units. non_overlapping_apart (kind_of a) byte_width (dictionary_of a) (as_read a.folds units)))
 
 pub returns-in_err-in_blocks : goal.returns-in_err-in_blocks
 returns-in_err-in_blocks g c =
     let p = err_from_is_err_and c.from_residual-in_err-in_blocks.result c.from_residual-in_err-in_blocks.ensures.1 in
     let a = c.args.self.now.automaton in
-    rw p.1 (read-nothing _ g.O.Write.contents _ (λ byte. ⊤) (λ bytes. bytes) _ _ _ _ _ refl (λ units. non_overlapping_apart (kind_of a) byte_width (dictionary_of a) (as_read a.folds units)))
+    rw p.1 (read-nothing _ g.O.Write.contents _ (λ byte. ⊤) (λ bytes. bytes) _ _ _ _ _ refl
+    (λ units. non_overlapping_apart (kind_of a) byte_width (dictionary_of a) (as_read a.folds units)))
 
 pub replace_from-requires-clause-longest : goal.replace_from-requires-clause-longest
 replace_from-requires-clause-longest g c =
@@ -37,11 +39,16 @@ replace_from-requires-clause-longest g c =
 
 pub returns : goal.returns
 returns g c =
-    let M : Rowed (Parts g.row.V.Denot) → Bool → List ℕ → List (Match g.row.V.Denot) = λ r folds units. standard byte_width (content r.automaton) (as_read folds units) in
+    let M : Rowed (Parts g.row.V.Denot) → Bool → List ℕ
+    → List (Match g.row.V.Denot) = λ r folds units. standard byte_width (content r.automaton) (as_read folds units) in
     let folds = c.is_ascii_case_insensitive-folds in
     let option = folds.ensures ∙ ap (λ (a : Automaton g.row.V.Denot). a.folds) c.automaton-2.ensures in
     let a = c.args.self.now.automaton in
-    let by_kind : MatchKind → List ℕ → List (Match g.row.V.Denot) = λ k units. non_overlapping k byte_width (dictionary_of a) (as_read a.folds units) in
-    let same = ap (λ r. M r folds.result) c.standard.ensures ∙ ap (λ b. M (rowed_states c.args.self.now) b) option ∙ ap by_kind (sym c.requires.kind) in
+    let by_kind : MatchKind → List ℕ
+    → List (Match g.row.V.Denot) = λ k units. non_overlapping k byte_width (dictionary_of a) (as_read a.folds units) in
+    let same = ap (λ r. M r folds.result) c.standard.ensures ∙ ap (λ b. M (rowed_states c.args.self.now) b) option
+    ∙ ap by_kind (sym c.requires.kind) in
     let L : Automaton g.row.V.Denot → Type 0 = λ a. IsLongest byte_width (dictionary_of a) c.in_ok-longest.longest in
-    replaces-bytes _ g.O.Write.contents _ (reader_remaining g.R.Read.remaining) _ _ _ c.new-source.ensures.reader c.in_ok-in_blocks.ensures.reads.left same _ (longest-least (subst L c.automaton.ensures c.in_ok-longest.ensures.ok)) c.replace_from.result c.replace_from.ensures.whole c.replace_from.ensures.beginning
+    replaces-bytes _ g.O.Write.contents _ (reader_remaining g.R.Read.remaining) _ _ _ c.new-source.ensures.reader
+    c.in_ok-in_blocks.ensures.reads.left same _ (longest-least (subst L c.automaton.ensures c.in_ok-longest.ensures.ok))
+    c.replace_from.result c.replace_from.ensures.whole c.replace_from.ensures.beginning

@@ -19,23 +19,33 @@ pub returns-in_err-longest : goal.returns-in_err-longest
 returns-in_err-longest g c =
     let p = err_from_is_err_and c.from_residual.result c.from_residual.ensures.1 in
     let a = c.args.self.now in
-    rw p.1 (read-nothing _ g.O.Write.contents _ (λ byte. ⊤) (λ bytes. bytes) _ _ _ _ _ refl (λ units. non_overlapping_apart (kind_of a) byte_width (dictionary_of a) (as_read a.folds units)))
+    rw p.1 (read-nothing _ g.O.Write.contents _ (λ byte. ⊤) (λ bytes. bytes) _ _ _ _ _ refl
+    (λ units. non_overlapping_apart (kind_of a) byte_width (dictionary_of a) (as_read a.folds units)))
 
 pub returns-in_err-in_blocks : goal.returns-in_err-in_blocks
 returns-in_err-in_blocks g c =
     let p = err_from_is_err_and c.from_residual-in_err-in_blocks.result c.from_residual-in_err-in_blocks.ensures.1 in
     let a = c.args.self.now in
-    rw p.1 (read-nothing _ g.O.Write.contents _ (λ byte. ⊤) (λ bytes. bytes) _ _ _ _ _ refl (λ units. non_overlapping_apart (kind_of a) byte_width (dictionary_of a) (as_read a.folds units)))
+    rw p.1 (read-nothing _ g.O.Write.contents _ (λ byte. ⊤) (λ bytes. bytes) _ _ _ _ _ refl
+    (λ units. non_overlapping_apart (kind_of a) byte_width (dictionary_of a) (as_read a.folds units)))
 
 pub replace_from-requires-clause-longest : goal.replace_from-requires-clause-longest
 replace_from-requires-clause-longest g c =
     let P : Parts g.row.V.Denot → Type 0 = λ p. HasNoLonger byte_width (content p) c.in_ok-longest.longest in
-    subst P (sym (c.standard.ensures ∙ ap (λ (a : Automaton g.row.V.Denot). a.parts) (ap (λ s. s.searched) c.self-inside.view_is ∙ c.self.view_is))) c.in_ok-longest.ensures.ok.none_longer
+    subst P (sym
+    (c.standard.ensures ∙ ap (λ (a : Automaton g.row.V.Denot). a.parts) (ap (λ s. s.searched) c.self-inside.view_is ∙ c.self.view_is)))
+    c.in_ok-longest.ensures.ok.none_longer
 
 pub returns : goal.returns
 returns g c =
-    let M : Parts g.row.V.Denot → Bool → List ℕ → List (Match g.row.V.Denot) = λ p folds units. standard byte_width (content p) (as_read folds units) in
+    let M : Parts g.row.V.Denot → Bool → List ℕ
+    → List (Match g.row.V.Denot) = λ p folds units. standard byte_width (content p) (as_read folds units) in
     let a = c.args.self.now in
-    let by_kind : MatchKind → List ℕ → List (Match g.row.V.Denot) = λ k units. non_overlapping k byte_width (dictionary_of a) (as_read a.folds units) in
-    let same = ap (λ p. M p c.self-inside.inside.0.0.folds) c.standard.ensures ∙ ap (λ (a : Automaton g.row.V.Denot). M a.parts a.folds) (ap (λ s. s.searched) c.self-inside.view_is ∙ c.self.view_is) ∙ ap by_kind (sym c.requires.kind) in
-    replaces-bytes _ g.O.Write.contents _ (reader_remaining g.R.Read.remaining) _ _ _ c.new-source.ensures.reader c.in_ok-in_blocks.ensures.reads.left same _ (longest-least c.in_ok-longest.ensures.ok) c.replace_from.result c.replace_from.ensures.whole c.replace_from.ensures.beginning
+    let by_kind : MatchKind → List ℕ
+    → List (Match g.row.V.Denot) = λ k units. non_overlapping k byte_width (dictionary_of a) (as_read a.folds units) in
+    let same = ap (λ p. M p c.self-inside.inside.0.0.folds) c.standard.ensures
+    ∙ ap (λ (a : Automaton g.row.V.Denot). M a.parts a.folds) (ap (λ s. s.searched) c.self-inside.view_is ∙ c.self.view_is)
+    ∙ ap by_kind (sym c.requires.kind) in
+    replaces-bytes _ g.O.Write.contents _ (reader_remaining g.R.Read.remaining) _ _ _ c.new-source.ensures.reader
+    c.in_ok-in_blocks.ensures.reads.left same _ (longest-least c.in_ok-longest.ensures.ok) c.replace_from.result
+    c.replace_from.ensures.whole c.replace_from.ensures.beginning

@@ -10,4 +10,5 @@ use Rattle.daachorse_charwise.proofs.charwise.streaming.CharwiseDoubleArrayAhoCo
 pub returns-clause-ok : goal.returns-clause-ok
 returns-clause-ok g c =
     let P : Automaton g.row.V.Denot → Type 0 = λ a. IfOk c.longest.result (IsLongest char_width (dictionary_of a)) in
-    subst P (ap (λ s. s.searched) c.self-inside.view_is ∙ c.self.view_is) (IfOk-weaker c.longest.result _ _ (λ longest is. record { none_longer = is.0; some = is.1 }) c.longest.ensures.ok)
+    subst P (ap (λ s. s.searched) c.self-inside.view_is ∙ c.self.view_is)
+    (IfOk-weaker c.longest.result _ _ (λ longest is. record { none_longer = is.0; some = is.1 }) c.longest.ensures.ok)

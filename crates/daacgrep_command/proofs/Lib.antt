@@ -6,6 +6,7 @@ pub mod Fronts
 pub mod Marks
 pub mod Parts
 pub mod Passing
+pub mod Reports
 pub mod Requests
 pub mod Selected
 pub mod Troubles

@@ -1,5 +1,6 @@
 -- The lines at the front of a text, where a pattern occurs in each, or in none.
-use Rattle.std.specs.Prelude.{◌≡◌, ℕ, zero, suc, ◌+◌, ◌-◌, ◌<◌, ◌≤◌, ◌==◌, Bool, true, false, not, List, Option, Some, None, IfSome, drop, length, nat_lt, take, if◌then◌else◌}
+use Rattle.std.specs.Prelude.{◌≡◌, ℕ, zero, suc, ◌+◌, ◌-◌, ◌<◌, ◌≤◌, ◌==◌, Bool, true, false, not, List, Option, Some, None, IfSome, drop}
+use Rattle.std.specs.Prelude.{length, nat_lt, take, if◌then◌else◌}
 use Rattle.std.specs.List.{position_or_len}
 use Rattle.daacgrep_command.specs.declared.ahead.Ahead.{Ahead}
 use Rattle.daacgrep_command.specs.declared.ahead.Front.{Front}
@@ -27,20 +28,21 @@ module _ (s : Sought) (mark : ℕ) where
   abbrev pub BeginsWithLines : Bool → ℕ → ℕ → List ℕ → Type 0
   BeginsWithLines has zero n text = n ≡ 0
   BeginsWithLines has (suc lines) n text =
-      BeginsWithLine has (first_len mark text) (first_end mark text) text × (first_end mark text ≤ n) × BeginsWithLines has lines (n - first_end mark text) (drop (first_end mark text) text)
+      BeginsWithLine has (first_len mark text) (first_end mark text) text × (first_end mark text ≤ n)
+      × BeginsWithLines has lines (n - first_end mark text) (drop (first_end mark text) text)
 
   -- the first n bytes are lines without a match
   abbrev pub AreClear : ℕ → List ℕ → Type 0
   AreClear n text = (lines : ℕ) × BeginsWithLines false lines n text
 
-  -- lines without a match, and where one is found, a line with a match behind them
+  -- lines without a match, and where one is found, a line with a match after them
   pub record IsFront (text : List ℕ) (f : Front) : Type 0 where
     pub clear : AreClear f.clear text
     pub found : IfSome f.found (λ line. BeginsWithLine true line.0 line.1 (drop f.clear text))
     pub some : f.found ≡ None → 0 < f.clear
 
   module _ (inverts : Bool) (text : List ℕ) where
-    -- the next line that is selected, and lines without a match behind it
+    -- the next line that is selected, and lines without a match after it
     pub record IsAhead (a : Ahead) : Type 0 where
       pub lines : ℕ
       pub skipped : BeginsWithLines inverts lines a.skip text

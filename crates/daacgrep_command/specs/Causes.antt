@@ -1,5 +1,5 @@
 -- Why a command ends with nothing written.
-use Rattle.std.specs.Prelude.{◌≡◌, ◌⊎◌, ℕ, List, Option, Some, None, alloc_error, false, map}
+use Rattle.std.specs.Prelude.{◌≡◌, ◌⊎◌, ◌<◌, ℕ, List, Some, None, alloc_error, false, map}
 use Rattle.std.specs.Borrow.{Bor}
 use Rattle.std.specs.Int.{w32}
 use Rattle.std.specs.List.{Contains}
@@ -17,6 +17,7 @@ use Rattle.daacgrep_command.specs.declared.error.CommandError.TheVariants.{NoPat
 use Rattle.daacgrep_command.specs.declared.flag.Flag.{Flag}
 use Rattle.daacgrep_command.specs.declared.flag.Flag.TheVariants.{IgnoreCase, Values}
 use Rattle.daacgrep_command.specs.Asked.{AreFilesOf, GivenFile, IsSavedWith, has_unread, kind_asked, names_patterns, rules_asked}
+use Rattle.daacgrep_command.specs.FileSystems.{Disk}
 use Rattle.daacgrep_command.specs.Flags.{asks}
 use Rattle.daacgrep_command.specs.Options.{Asked, last_of}
 use Rattle.daacgrep_command.specs.Rules.{pattern_of}
@@ -25,16 +26,20 @@ use Rattle.daacgrep_command.specs.Rules.{pattern_of}
 abbrev pub IsNoForm : List ℕ → DaachorseError → Type 0
 IsNoForm bytes cause = IsOutOfMemory cause ⊎ GivesNoAutomaton (take_number w32) bytes
 
-module _ (given : Option (List ℕ → Option (List ℕ))) where
+module _ (old new : Disk) where
+  -- the file of this name could not be read, and this was counted
+  abbrev pub IsUnread : List ℕ → Type 0
+  IsUnread name = Tells old.given name None × (old.failures < new.failures)
+
   -- there was no memory, or the error names a file among these that cannot be read
   abbrev pub IsNotRead : List (List ℕ) → CommandError → Type 0
   IsNotRead names e =
-      (e ≡ OutOfMemory alloc_error) ⊎ ((name : Bor (List ℕ)) × (e ≡ Read name) × Contains names name.now × Tells given name.now None)
+      (e ≡ OutOfMemory alloc_error) ⊎ ((name : Bor (List ℕ)) × (e ≡ Read name) × Contains names name.now × IsUnread name.now)
 
   -- the file begins with an automaton for other searches than those that are asked for
   pub record IsOfOtherOptions (flags : List Flag) (file : List ℕ) : Type 0 where
     pub bytes : List ℕ
-    pub told : Tells given file (Some bytes)
+    pub has : Tells old.given file (Some bytes)
     pub automaton : Automaton ℕ
     pub rest : List ℕ
     pub begins : GivesAutomaton (take_number w32) bytes automaton rest
@@ -43,8 +48,9 @@ module _ (given : Option (List ℕ → Option (List ℕ))) where
   -- the file cannot be read, begins with no automaton, or with one for other searches
   abbrev pub IsNotLoaded : List Flag → Bor (List ℕ) → CommandError → Type 0
   IsNotLoaded flags name e =
-      ((e ≡ Read name) × Tells given name.now None)
-      ⊎ (((cause : DaachorseError) × (e ≡ Load name cause) × ((bytes : List ℕ) × Tells given name.now (Some bytes) × IsNoForm bytes cause))
+      ((e ≡ Read name) × IsUnread name.now)
+      ⊎ (((cause : DaachorseError) × (e ≡ Load name cause)
+      × ((bytes : List ℕ) × Tells old.given name.now (Some bytes) × IsNoForm bytes cause))
       ⊎ ((e ≡ OtherOptions name) × IsOfOtherOptions flags name.now))
 
 -- the build refuses the patterns of these lines
@@ -57,20 +63,22 @@ IsNotBuilt flags rules e =
 abbrev pub IsUnsaved : Bor (List ℕ) → CommandError → Type 0
 IsUnsaved name e = (e ≡ Save name) ⊎ ((cause : DaachorseError) × (e ≡ Build cause) × IsOutOfMemory cause)
 
-module _ (asked : Asked) (given : Option (List ℕ → Option (List ℕ))) where
+module _ (asked : Asked) (old new : Disk) where
   -- no pattern is named, or their files are not read
   abbrev pub IsNoText : CommandError → Type 0
-  IsNoText e = ((e ≡ NoPattern) × (names_patterns asked ≡ false)) ⊎ IsNotRead given asked.pattern_files e
+  IsNoText e = ((e ≡ NoPattern) × (names_patterns asked ≡ false)) ⊎ IsNotRead old new asked.pattern_files e
 
   -- there is no automaton as it is asked for, where the patterns have these lines
   abbrev pub IsNoAutomaton : List (List ℕ) → CommandError → Type 0
   IsNoAutomaton rules e =
-      IsNotBuilt asked.flags rules e ⊎ ((name : Bor (List ℕ)) × (last_of asked.loads ≡ Some name.now) × IsNotLoaded given asked.flags name e)
+      IsNotBuilt asked.flags rules e
+      ⊎ ((name : Bor (List ℕ)) × (last_of asked.loads ≡ Some name.now) × IsNotLoaded old new asked.flags name e)
 
   -- the patterns were read, and there is no automaton as it is asked for
   abbrev pub IsNoSearcher : CommandError → Type 0
   IsNoSearcher e =
-      (files : List GivenFile) × AreFilesOf given asked.pattern_files files × (has_unread files ≡ false) × IsNoAutomaton (rules_asked asked files) e
+      (files : List GivenFile) × AreFilesOf old.given asked.pattern_files files × (has_unread files ≡ false)
+      × IsNoAutomaton (rules_asked asked files) e
 
   -- why nothing that is asked for is done
   abbrev pub IsCause : CommandError → Type 0

@@ -3,13 +3,15 @@ pub mod Asked
 pub mod Causes
 pub mod Ends
 pub mod Fields
+pub mod FileSystems
 pub mod Flags
+pub mod Jobs
 pub mod Lines
+pub mod Messages
 pub mod Options
 pub mod Printed
 pub mod Reading
 pub mod Rules
-pub mod Saved
+pub mod Sending
 pub mod Sought
-pub mod Streams
 pub mod Windows

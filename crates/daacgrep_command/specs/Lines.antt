@@ -3,6 +3,7 @@ use Rattle.std.specs.Prelude.{ℕ, ◌+◌, ◌==◌, Bool, List, [], ◌∷◌,
 use Rattle.std.specs.List.{slice_split}
 use Rattle.daachorse_model.specs.Program.{without_empty_end}
 use Rattle.daacgrep_command.specs.declared.line.Line.{Line}
+use Rattle.daacgrep_command.specs.declared.line.Part.{Part}
 
 -- a line: its number, the place of its first byte, and its bytes
 pub record TextLine : Type 0 where
@@ -20,11 +21,16 @@ seen line = record { number = line.number; start = line.start; bytes = line.byte
 -- these pieces as the lines of a text from `start` on, of which `before` lines stand before them
 abbrev pub lines_from : ℕ → ℕ → List (List ℕ) → List TextLine
 lines_from before start [] = []
-lines_from before start (piece ∷ pieces) = record { number = before + 1; start = start; bytes = piece } ∷ lines_from (before + 1) (start + length piece + 1) pieces
+lines_from before start (piece ∷ pieces) =
+    record { number = before + 1; start = start; bytes = piece } ∷ lines_from (before + 1) (start + length piece + 1) pieces
 
 -- the pieces between marks, less an empty one at the end
 abbrev pub pieces_of : ℕ → List ℕ → List (List ℕ)
 pieces_of mark text = without_empty_end (slice_split (λ b. b == mark) text)
+
+-- the lines of a part, where a mark ends each
+abbrev pub lines_of_part : ℕ → Part → List TextLine
+lines_of_part mark part = lines_from part.before part.start (pieces_of mark part.bytes.now)
 
 -- the lines of a text, where a mark ends each
 abbrev pub lines_of : ℕ → List ℕ → List TextLine

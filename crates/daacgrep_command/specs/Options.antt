@@ -1,5 +1,7 @@
 -- What the words of a command line ask for.
-use Rattle.std.specs.Prelude.{◌≡◌, ⊤, ℕ, ◌-◌, ◌==◌, ◌&&◌, ◌||◌, Bool, true, false, not, nat_lt, slice_index, length, take, drop, Result, OnOk, IfErr, List, [], ◌∷◌, ◌++◌, Option, Some, None, codes, is_none, is_some, map, slice_get, unwrap_or, if◌then◌else◌}
+use Rattle.std.specs.Prelude.{◌≡◌, ⊤, ℕ, ◌-◌, ◌==◌, ◌&&◌, ◌||◌, Bool, true, false, not, nat_lt, slice_index, length, take, drop, Result}
+use Rattle.std.specs.Prelude.{OnOk, IfErr, List, [], ◌∷◌, ◌++◌, Option, Some, None, codes, is_none, is_some, map, slice_get, unwrap_or}
+use Rattle.std.specs.Prelude.{if◌then◌else◌}
 use Rattle.std.specs.List.{Contains, filter_map, list_any}
 use Rattle.daachorse_model.specs.Units.{same_text}
 use Rattle.daacgrep_command.specs.declared.clash.Clash.{Clash}
@@ -14,7 +16,8 @@ use Rattle.daacgrep_command.specs.declared.options.Shape.{Shape}
 use Rattle.daacgrep_command.specs.declared.options.Shape.TheVariants.{Name, Letters, Long, End}
 use Rattle.daacgrep_command.specs.Flags.{asks, flag_of}
 
--- what a word, or a letter of it, asks for: a flag; a pattern, a file of patterns, one that is written or was written, or a file that is searched; or nothing that is known, and nothing without an argument
+-- what a word, or a letter of it, asks for: a flag; a pattern, a file of patterns, one that is written or was written, or a file that is
+-- searched; or nothing that is known, and nothing without an argument
 pub data Request : Type 0 where
   AsksFor : Flag → Request
   Gives : List ℕ → Request
@@ -42,24 +45,27 @@ last_letter letters = slice_index letters (length letters - 1)
 abbrev pub flag_letters : List ℕ → List ℕ
 flag_letters letters = if last_letter letters == 101 || last_letter letters == 102 then take (length letters - 1) letters else letters
 
--- how the word behind a group is read: after an e at its end as a pattern, after an f as the name of a file of patterns
-abbrev pub role_behind : List ℕ → Role
-role_behind letters = if last_letter letters == 101 then Pattern else (if last_letter letters == 102 then PatternFile else Any)
+-- how the word after a group is read: after an e at its end as a pattern, after an f as the name of a file of patterns
+abbrev pub role_after_letters : List ℕ → Role
+role_after_letters letters = if last_letter letters == 101 then Pattern else (if last_letter letters == 102 then PatternFile else Any)
 
--- a word of one letter, or that begins with no dash, is a name; behind one dash stand letters, behind two a long option, or nothing where options end
+-- a word of one letter, or that begins with no dash, is a name; after one dash stand letters, after two a long option, or nothing where
+-- options end
 abbrev pub shape_of : List ℕ → Shape
-shape_of word = if nat_lt (length word) 2 || not (slice_index word 0 == 45) then Name else (if not (slice_index word 1 == 45) then Letters else (if nat_lt 2 (length word) then Long else End))
+shape_of word =
+    if nat_lt (length word) 2 || not (slice_index word 0 == 45) then Name
+    else (if not (slice_index word 1 == 45) then Letters else (if nat_lt 2 (length word) then Long else End))
 
--- how the word behind a long option is read, where it is an argument: as the name of a file that is written, or that was written
+-- how the word after a long option is read, where it is an argument: as the name of a file that is written, or that was written
 abbrev pub long_role : List ℕ → Option Role
 long_role word = if same_text word (codes "--save") then Some Save else (if same_text word (codes "--load") then Some Load else None)
 
--- what a long option asks for: nothing yet, where an argument stands behind it
+-- what a long option asks for: nothing yet, where an argument stands after it
 abbrev pub long_asks : Option Role → List ℕ → List Request
 long_asks None word = flag_or_unknown word (flag_of word) ∷ []
 long_asks (Some role) word = []
 
--- what a word of this shape asks for, and how the word behind it is read
+-- what a word of this shape asks for, and how the word after it is read
 abbrev pub asked_as : Shape → List ℕ → List Request
 asked_as Name word = Names word ∷ []
 asked_as Letters word = letters_ask word (flag_letters (drop 1 word))
@@ -68,7 +74,7 @@ asked_as End word = []
 
 abbrev pub role_as : Shape → List ℕ → Role
 role_as Name word = Any
-role_as Letters word = role_behind (drop 1 word)
+role_as Letters word = role_after_letters (drop 1 word)
 role_as Long word = unwrap_or (long_role word) Any
 role_as End word = File
 
@@ -87,7 +93,7 @@ asked_by Save word = NamesSaved word ∷ []
 asked_by Load word = NamesLoaded word ∷ []
 asked_by File word = Names word ∷ []
 
--- how the word behind it is read
+-- how the word after it is read
 abbrev pub role_after : Role → List ℕ → Role
 role_after Any word = role_of_word word
 role_after Pattern word = Any
@@ -145,11 +151,25 @@ file_in _ = None
 
 -- what requests ask for, in their order
 abbrev pub options_of : List Request → Asked
-options_of rs = record { flags = filter_map flag_in rs; patterns = filter_map pattern_in rs; pattern_files = filter_map pattern_file_in rs; saves = filter_map saved_in rs; loads = filter_map loaded_in rs; files = filter_map file_in rs }
+options_of rs = record {
+  flags = filter_map flag_in rs;
+  patterns = filter_map pattern_in rs;
+  pattern_files = filter_map pattern_file_in rs;
+  saves = filter_map saved_in rs;
+  loads = filter_map loaded_in rs;
+  files = filter_map file_in rs;
+}
 
 -- what is asked for first, and then more
 abbrev pub joined : Asked → Asked → Asked
-joined a b = record { flags = a.flags ++ b.flags; patterns = a.patterns ++ b.patterns; pattern_files = a.pattern_files ++ b.pattern_files; saves = a.saves ++ b.saves; loads = a.loads ++ b.loads; files = a.files ++ b.files }
+joined a b = record {
+  flags = a.flags ++ b.flags;
+  patterns = a.patterns ++ b.patterns;
+  pattern_files = a.pattern_files ++ b.pattern_files;
+  saves = a.saves ++ b.saves;
+  loads = a.loads ++ b.loads;
+  files = a.files ++ b.files;
+}
 
 -- a request that cannot be met
 abbrev pub is_wrong : Request → Bool

@@ -1,4 +1,4 @@
--- The lines of the patterns: each is a pattern, or a pattern with a value behind a tab.
+-- The lines of the patterns: each is a pattern, or a pattern with a value after a tab.
 use Rattle.std.specs.Prelude.{ℕ, ◌+◌, ◌==◌, Bool, true, false, List, [], ◌∷◌, drop, take}
 use Rattle.std.specs.List.{position_or_len, slice_index_or}
 use Rattle.daachorse_model.specs.declared.Match.{Match}
@@ -12,7 +12,7 @@ abbrev pub pattern_of : Bool → List ℕ → List ℕ
 pattern_of true line = take (before_tab line) line
 pattern_of false line = line
 
--- its value: what stands behind the first tab, and nothing where it has none
+-- its value: what stands after the first tab, and nothing where it has none
 abbrev pub value_of : List ℕ → List ℕ
 value_of line = drop (before_tab line + 1) line
 

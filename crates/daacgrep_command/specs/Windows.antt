@@ -2,12 +2,11 @@
 use Rattle.std.specs.Prelude.{◌≡◌, ◌==◌, ℕ, List, ◌++◌, Option, count_by, length}
 use Rattle.std.specs.Io.KnownBytes.{Consumes, IsAtEnd}
 
--- bytes, the place where they begin, the byte that ends lines, and how often there was no room for more
+-- bytes, the place where they begin, and the byte that ends lines
 pub record Held : Type 0 where
   pub start : ℕ
   pub bytes : List ℕ
   pub mark : ℕ
-  pub failures : ℕ
 
 -- no byte ends a line, so no line is complete
 abbrev pub HasNone : ℕ → List ℕ → Type 0

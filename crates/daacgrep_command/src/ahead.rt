@@ -4,7 +4,7 @@ ghost use Rattle.std.specs.Prelude.{◌≡◌, ◌<◌, ℕ, drop, false, length
 ghost use Rattle.daacgrep_command.specs.Ahead.{AreClear, BeginsWithLines, IsFront, IsNext};
 ghost use Rattle.daacgrep_command.specs.Sought.{sought_of};
 
-use crate::lines::{behind_last, first_line};
+use crate::lines::{after_last, first_line};
 use crate::searcher::Searcher;
 use std::alloc::Allocator;
 
@@ -17,11 +17,11 @@ pub struct Ahead {
     pub len: usize,
     /// Its length with its mark.
     pub end: usize,
-    /// How many bytes behind it are known to be lines without a match.
+    /// How many bytes after it are known to be lines without a match.
     pub clear: usize,
 }
 
-/// The front of a text: lines without a match, and perhaps one with a match behind them.
+/// The front of a text: lines without a match, and perhaps one with a match after them.
 #[derive(Clone, Copy, Debug, PartialEq, Eq)]
 struct Front {
     /// How many bytes the lines without a match take.
@@ -129,7 +129,7 @@ fn read_front<A: Allocator>(searcher: &Searcher<A>, mark: u8, text: &[u8]) -> Fr
             found: None,
         };
     };
-    let start = behind_last(mark, &text[..found.start]);
+    let start = after_last(mark, &text[..found.start]);
     let (len, end) = first_line(mark, &text[start..]);
     if found.end <= start + len || searcher.is_match(&text[start..start + len]) {
         Front {

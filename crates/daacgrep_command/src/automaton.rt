@@ -14,17 +14,16 @@ ghost use Rattle.daacgrep_command.specs.declared.error.CommandError.TheVariants.
 ghost use Rattle.daacgrep_command.specs.declared.flag.Flag.TheVariants.{IgnoreCase, Values};
 ghost use Rattle.daacgrep_command.specs.Asked.{IsAutomatonAsked, IsLoaded, IsSavedWith, kind_asked};
 ghost use Rattle.daacgrep_command.specs.Causes.{IsNoAutomaton, IsNoForm, IsNotLoaded, IsUnsaved};
+ghost use Rattle.daacgrep_command.specs.FileSystems.{OnlyReads, Stores};
 ghost use Rattle.daacgrep_command.specs.Flags.{asks};
 ghost use Rattle.daacgrep_command.specs.Options.{last_of};
 ghost use Rattle.daacgrep_command.specs.Rules.{pattern_of};
-ghost use Rattle.daacgrep_command.specs.Saved.{Stores};
 
 use crate::error::CommandError;
+use crate::file_system::FileSystem;
 use crate::flag::Flag;
 use crate::options::Options;
-use crate::outputs::Outputs;
 use crate::rule::pattern_of;
-use daacfind_command::inputs::Inputs;
 use daachorse::errors::DaachorseError;
 use daachorse::{DoubleArrayAhoCorasick, DoubleArrayAhoCorasickBuilder, MatchKind};
 use std::alloc::{AllocError, Global};
@@ -37,15 +36,16 @@ use std::alloc::{AllocError, Global};
 /// [`CommandError::Read`] if the file cannot be read, [`CommandError::Load`] if it begins with no
 /// automaton or an allocation fails, [`CommandError::OtherOptions`] if it was saved with other
 /// options, and [`CommandError::Build`] if the build refuses the patterns or an allocation fails.
-pub fn automaton<'a, I: Inputs>(
+pub fn automaton<'a, F: FileSystem>(
     alloc: Global,
     options: &Options<'a, Global>,
     rules: &[&[u8]],
-    files: &mut I,
+    files: &mut F,
 ) -> Result<DoubleArrayAhoCorasick<u32, Global>, CommandError<'a>>
-    ensures given { I.given files.new ≡ I.given files.old }
-    ensures ok { IfOk result (IsAutomatonAsked options.now.flags (I.given files.old) (map (λ r. r.now) rules.now) (last_of options.now.loads)) }
-    ensures err { IfErr result (IsNoAutomaton options.now (I.given files.old) (map (λ r. r.now) rules.now)) }
+    ensures reads { OnlyReads (F.sees files.old) (F.sees files.new) }
+    ensures ok { IfOk result (IsAutomatonAsked options.now.flags (F.sees files.old).given (map (λ r. r.now) rules.now)
+        (last_of options.now.loads)) }
+    ensures err { IfErr result (IsNoAutomaton options.now (F.sees files.old) (F.sees files.new) (map (λ r. r.now) rules.now)) }
 {
     match options.load_file() {
         Some(name) => load(alloc, options, name, files),
@@ -59,35 +59,36 @@ pub fn automaton<'a, I: Inputs>(
 ///
 /// [`CommandError::Save`] if the file cannot be written, and [`CommandError::Build`] if an
 /// allocation fails.
-pub fn save<'a, O: Outputs>(
+pub fn save<'a, F: FileSystem>(
     alloc: Global,
     automaton: &DoubleArrayAhoCorasick<u32, Global>,
     name: &'a str,
-    saved: &mut O,
+    files: &mut F,
 ) -> Result<u8, CommandError<'a>>
     ensures status { IfOk result (λ status. status ≡ 0) }
     ensures automaton { OnOk result (IsAutomaton (λ v. v < 2 ^ 32) automaton.now) }
-    ensures stored { OnOk result (Stores (O.saved saved.old) (O.saved saved.new) (record { name = name.now; bytes = written_form (number_form w32) automaton.now } ∷ [])) }
-    ensures kept { OnErr result (O.saved saved.new ≡ O.saved saved.old) }
+    ensures stored { OnOk result (Stores (F.sees files.old).saved (F.sees files.new).saved
+        (record { name = name.now; bytes = written_form (number_form w32) automaton.now } ∷ [])) }
+    ensures kept { OnErr result ((F.sees files.new).saved ≡ (F.sees files.old).saved) }
     ensures err { IfErr result (IsUnsaved name.entry) }
 {
     let bytes = automaton.serialize(alloc)?;
-    match saved.write(name, &bytes) {
+    match files.write(name, &bytes) {
         Ok(()) => Ok(0),
         Err(_) => Err(CommandError::Save(name)),
     }
 }
 
 // Reads the automaton that a file begins with.
-fn load<'a, I: Inputs>(
+fn load<'a, F: FileSystem>(
     alloc: Global,
     options: &Options<'a, Global>,
     name: &'a str,
-    files: &mut I,
+    files: &mut F,
 ) -> Result<DoubleArrayAhoCorasick<u32, Global>, CommandError<'a>>
-    ensures given { I.given files.new ≡ I.given files.old }
-    ensures ok { IfOk result (IsLoaded options.now.flags (I.given files.old) name.now) }
-    ensures err { IfErr result (IsNotLoaded (I.given files.old) options.now.flags name.entry) }
+    ensures reads { OnlyReads (F.sees files.old) (F.sees files.new) }
+    ensures ok { IfOk result (IsLoaded options.now.flags (F.sees files.old).given name.now) }
+    ensures err { IfErr result (IsNotLoaded (F.sees files.old) (F.sees files.new) options.now.flags name.entry) }
 {
     let Some(bytes) = files.read(name) else {
         return Err(CommandError::Read(name));
@@ -132,8 +133,10 @@ fn build(
     options: &Options<'_, Global>,
     rules: &[&[u8]],
 ) -> Result<DoubleArrayAhoCorasick<u32, Global>, DaachorseError>
-    ensures ok { IfOk result (IsBuiltOf value_gives (kind_asked options.now.flags) (asks IgnoreCase options.now.flags) (map (pattern_of (asks Values options.now.flags)) (map (λ r. r.now) rules.now))) }
-    ensures err { IfErr result (IsBuildRefusal value_gives (kind_asked options.now.flags) (all_as_read (asks IgnoreCase options.now.flags) (map (pattern_of (asks Values options.now.flags)) (map (λ r. r.now) rules.now)))) }
+    ensures ok { IfOk result (IsBuiltOf value_gives (kind_asked options.now.flags) (asks IgnoreCase options.now.flags)
+        (map (pattern_of (asks Values options.now.flags)) (map (λ r. r.now) rules.now))) }
+    ensures err { IfErr result (IsBuildRefusal value_gives (kind_asked options.now.flags)
+        (all_as_read (asks IgnoreCase options.now.flags) (map (pattern_of (asks Values options.now.flags)) (map (λ r. r.now) rules.now)))) }
 {
     let patterns = patterns(alloc, options.has(Flag::Values), rules)?;
     let folds = options.has(Flag::IgnoreCase);

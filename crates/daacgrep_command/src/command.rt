@@ -1,96 +1,101 @@
 //! The command: from the words of a command line to a status.
 
-ghost use Rattle.std.specs.Prelude.{◌≡◌, ◌+◌, ◌<◌, IfOk, OnOk, map};
-ghost use Rattle.daacfind_command.specs.Runs.{IsWritten};
+ghost use Rattle.std.specs.Prelude.{◌≡◌, ◌<◌, IfErr, IfOk, OnOk, map};
+ghost use Rattle.daacgrep_command.specs.declared.error.CommandError.TheVariants.{Write};
 ghost use Rattle.daacgrep_command.specs.Asked.{IsSearched, IsUsage, end_asked, names_asked, report_asked, task_of, version_text};
-ghost use Rattle.daacgrep_command.specs.Ends.{Ends, EndsBy, status_of};
-ghost use Rattle.daacgrep_command.specs.Sought.{sought_of};
+ghost use Rattle.daacgrep_command.specs.Ends.{AttemptEndsBy, Ends, EndsBy};
+ghost use Rattle.daacgrep_command.specs.FileSystems.{OnlyReads};
+ghost use Rattle.daacgrep_command.specs.Jobs.{wanted_of};
+ghost use Rattle.daacgrep_command.specs.Sending.{IsWritten};
 
 use crate::automaton::{automaton, save};
 use crate::error::CommandError;
-use crate::files::search_files;
+use crate::file_system::FileSystem;
 use crate::flag::Flag;
+use crate::messages::{Message, Messages};
 use crate::options::Options;
-use crate::outputs::Outputs;
+use crate::output::Output;
 use crate::patterns::{lines, text};
 use crate::printing::Labels;
-use crate::search::{Report, Task};
+use crate::search::{Job, Report, Task};
 use crate::searcher::Searcher;
-use crate::streams::Streams;
 use crate::window::Window;
-use daacfind_command::sink::{Sink, SinkText, write_whole};
 use std::alloc::Global;
-use std::fmt::Write;
 
 // The names that are searched where none is given.
 const STANDARD_INPUT: &[&str] = &["-"];
 
 /// Runs the command, and returns its status: 0 if a line is selected, 1 if none is, and 2 after
-/// trouble. A file that cannot be read, or not to its end, is told of on `err`, and the search goes
-/// on with the next.
-/// With `--save` the automaton is written to `saved`, the status is 0, and no file is searched.
-pub fn command<I: Streams, O: Outputs, S: Sink, E: Sink>(
+/// trouble. A file that cannot be read, or not to its end, is reported on `err`, and the search
+/// goes on with the next; what ends the command is the last message there.
+/// With `--save` the automaton is written to a file, the status is 0, and no file is searched.
+pub fn command<F: FileSystem, S: Output, M: Messages>(
     alloc: Global,
     words: &[&str],
-    files: &mut I,
-    saved: &mut O,
+    files: &mut F,
     out: &mut S,
-    err: &mut E,
+    err: &mut M,
 ) -> u8
-    ensures ends { EndsBy (map (λ w. w.now) words.now) (I.Inputs.given files.old) (S.taken out.old) (S.taken out.new) (S.failures out.old) (S.failures out.new) (O.saved saved.old) (O.saved saved.new) result }
-    ensures flushed { result < 2 → S.unflushed out.old ≡ 0 → S.unflushed out.new ≡ 0 }
+    ensures ends { EndsBy (map (λ w. w.now) words.now) (F.sees files.old) (F.sees files.new) (S.sees out.old) (S.sees out.new)
+        (M.sent err.old) (M.sent err.new) result }
+    ensures flushed { result < 2 → (S.sees out.old).unflushed ≡ 0 → (S.sees out.new).unflushed ≡ 0 }
 {
-    match attempt(alloc, words, files, saved, out, err) {
+    match attempt(alloc, words, files, out, err) {
         Ok(status) => status,
         Err(error) => {
-            let _ = writeln!(SinkText { sink: err }, "{error}");
+            err.send(Message::Failure(error));
             2
         }
     }
 }
 
-fn attempt<'a, I: Streams, O: Outputs, S: Sink, E: Sink>(
+fn attempt<'a, F: FileSystem, S: Output, M: Messages>(
     alloc: Global,
     words: &[&'a str],
-    files: &mut I,
-    saved: &mut O,
+    files: &mut F,
     out: &mut S,
-    err: &mut E,
+    err: &mut M,
 ) -> Result<u8, CommandError<'a>>
-    ensures ends { EndsBy (map (λ w. w.now) words.now) (I.Inputs.given files.old) (S.taken out.old) (S.taken out.new) (S.failures out.old) (S.failures out.new) (O.saved saved.old) (O.saved saved.new) (status_of result) }
-    ensures flushed { OnOk result (S.unflushed out.old ≡ 0 → S.unflushed out.new ≡ 0) }
+    ensures ends { AttemptEndsBy (map (λ w. w.now) words.now) (F.sees files.old) (F.sees files.new) (S.sees out.old) (S.sees out.new)
+        (M.sent err.old) (M.sent err.new) result }
+    ensures flushed { OnOk result ((S.sees out.old).unflushed ≡ 0 → (S.sees out.new).unflushed ≡ 0) }
 {
     let options = Options::read(alloc, words)?;
-    answer(alloc, &options, files, saved, out, err)
+    answer(alloc, &options, files, out, err)
 }
 
 // Does what the options ask for.
-fn answer<'a, I: Streams, O: Outputs, S: Sink, E: Sink>(
+fn answer<'a, F: FileSystem, S: Output, M: Messages>(
     alloc: Global,
     options: &Options<'a, Global>,
-    files: &mut I,
-    saved: &mut O,
+    files: &mut F,
     out: &mut S,
-    err: &mut E,
+    err: &mut M,
 ) -> Result<u8, CommandError<'a>>
-    ensures ends { Ends options.now (I.Inputs.given files.old) (S.taken out.old) (S.taken out.new) (S.failures out.old) (S.failures out.new) (O.saved saved.old) (O.saved saved.new) result }
-    ensures flushed { OnOk result (S.unflushed out.old ≡ 0 → S.unflushed out.new ≡ 0) }
+    ensures ends { Ends options.now (F.sees files.old) (F.sees files.new) (S.sees out.old) (S.sees out.new) (M.sent err.old)
+        (M.sent err.new) result }
+    ensures flushed { OnOk result ((S.sees out.old).unflushed ≡ 0 → (S.sees out.new).unflushed ≡ 0) }
 {
     if options.has(Flag::Help) {
-        return told(usage(), out);
+        return print(usage(), out);
     }
     if options.has(Flag::Version) {
-        return told(version(), out);
+        return print(version(), out);
     }
     let text = text(alloc, options, files, err)?;
     let rules = lines(alloc, &text)?;
     let automaton = automaton(alloc, options, &rules, files)?;
     match options.save_file() {
-        Some(name) => save(alloc, &automaton, name, saved),
+        Some(name) => save(alloc, &automaton, name, files),
         None => {
             let searcher = Searcher::new(alloc, automaton);
             let mut window = Window::new(alloc)?;
-            search(&searcher, &rules, options, files, &mut window, out, err)
+            let job = Job {
+                searcher: &searcher,
+                rules: &rules,
+                task: task(options),
+            };
+            search(&job, options, files, &mut window, out, err)
         }
     }
 }
@@ -131,42 +136,35 @@ fn version() -> &'static str
     "daacgrep 1.0.0\n"
 }
 
-// Writes a text, and flushes the sink.
-fn told<'a, S: Sink>(text: &str, out: &mut S) -> Result<u8, CommandError<'a>>
-    ensures written { IsWritten (S.taken out.old) (S.taken out.new) (S.failures out.old) (S.failures out.new) result text.now }
+// Writes a text, and flushes the output.
+fn print<'a, S: Output>(text: &str, out: &mut S) -> Result<u8, CommandError<'a>>
+    ensures written { IsWritten (S.sees out.old) (S.sees out.new) result text.now }
     ensures status { IfOk result (λ status. status ≡ 0) }
-    ensures flushed { OnOk result (S.unflushed out.new ≡ 0) }
+    ensures cause { IfErr result (λ e. e ≡ Write) }
+    ensures flushed { OnOk result ((S.sees out.new).unflushed ≡ 0) }
 {
-    write_whole(out, text.as_bytes())?;
+    out.write(text.as_bytes())?;
     out.flush()?;
     Ok(0)
 }
 
-// Searches the files that the options name, and flushes the sink.
-fn search<'a, I: Streams, S: Sink, E: Sink>(
-    searcher: &Searcher<Global>,
-    rules: &[&[u8]],
+// Searches the files that the options name, and flushes the output.
+fn search<'a, F: FileSystem, S: Output, M: Messages>(
+    job: &Job<'_, Global>,
     options: &Options<'a, Global>,
-    files: &mut I,
+    files: &mut F,
     window: &mut Window,
     out: &mut S,
-    err: &mut E,
+    err: &mut M,
 ) -> Result<u8, CommandError<'a>>
-    ensures trouble { IfOk result (λ status. status ≡ 2 → I.failures files.old + window.old.failures < I.failures files.new + window.new.failures) }
-    ensures flushed { OnOk result (S.unflushed out.new ≡ 0) }
-    ensures searched { IsSearched (sought_of searcher.now) (map (λ r. r.now) rules.now) options.now (I.Inputs.given files.old) (S.taken out.old) (S.taken out.new) (S.failures out.old) (S.failures out.new) result }
+    ensures reads { OnlyReads (F.sees files.old) (F.sees files.new) }
+    ensures trouble { IfOk result (λ status. status ≡ 2 → (F.sees files.old).failures < (F.sees files.new).failures) }
+    ensures cause { IfErr result (λ e. e ≡ Write) }
+    ensures flushed { OnOk result ((S.sees out.new).unflushed ≡ 0) }
+    ensures searched { IsSearched (wanted_of job.now) options.now (F.sees files.old).given (S.sees out.old) (S.sees out.new)
+        (M.sent err.old) (M.sent err.new) result }
 {
-    let names = named(options);
-    let outcome = search_files(
-        searcher,
-        rules,
-        task(options),
-        names,
-        files,
-        window,
-        out,
-        err,
-    )?;
+    let outcome = job.search_files(named(options), files, window, out, err)?;
     out.flush()?;
     Ok(outcome.status(options.has(Flag::Quiet)))
 }

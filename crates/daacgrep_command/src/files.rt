@@ -1,18 +1,17 @@
 //! The search of files by their names.
 
-ghost use Rattle.std.specs.Prelude.{◌≡◌, ◌+◌, ◌∷◌, ◌&&◌, ◌||◌, [], IfOk, map, not};
+ghost use Rattle.std.specs.Prelude.{◌≡◌, ◌∷◌, ◌&&◌, ◌||◌, [], IfOk, map, not};
 ghost use Rattle.daacgrep_command.specs.Asked.{AreSearched, both, shown, status_of_outcome};
-ghost use Rattle.daacgrep_command.specs.Sought.{sought_of};
-ghost use Rattle.daacgrep_command.specs.Streams.{IsTrouble};
+ghost use Rattle.daacgrep_command.specs.FileSystems.{IsTrouble, OnlyReads};
+ghost use Rattle.daacgrep_command.specs.Jobs.{wanted_of};
 
-use crate::reading::search_open;
-use crate::search::Task;
-use crate::searcher::Searcher;
-use crate::streams::Streams;
+use crate::file_system::FileSystem;
+use crate::messages::{Message, Messages};
+use crate::output::Output;
+use crate::search::Job;
 use crate::window::Window;
-use daacfind_command::sink::{Sink, SinkError, SinkText};
+use daacfind_command::sink::SinkError;
 use std::alloc::Allocator;
-use std::fmt::Write;
 
 /// What came of a search of files.
 #[derive(Clone, Copy, Debug, PartialEq, Eq)]
@@ -49,62 +48,59 @@ impl Outcome {
     }
 }
 
-/// Writes what the task asks of each of the files, and returns what came of it. A file that cannot
-/// be read, or not to its end, is told of on `err`, and the search goes on with the next.
-pub fn search_files<I: Streams, S: Sink, E: Sink, A: Allocator>(
-    searcher: &Searcher<A>,
-    rules: &[&[u8]],
-    task: Task,
-    names: &[&str],
-    files: &mut I,
-    window: &mut Window,
-    out: &mut S,
-    err: &mut E,
-) -> Result<Outcome, SinkError>
-    ensures trouble { IfOk result (λ o. IsTrouble o.trouble (I.failures files.old + window.old.failures) (I.failures files.new + window.new.failures)) }
-    ensures searched { AreSearched (sought_of searcher.now) (map (λ r. r.now) rules.now) task (I.Inputs.given files.old) (map (λ n. n.now) names.now) (S.taken out.old) (S.taken out.new) (S.failures out.old) (S.failures out.new) result }
-{
-    let mut outcome = Outcome {
-        selected: false,
-        trouble: false,
-    };
-    for name in names {
-        let found = search_named(searcher, rules, task, name, files, window, out, err)?;
-        outcome = outcome.and(found);
-    }
-    Ok(outcome)
-}
-
-fn search_named<I: Streams, S: Sink, E: Sink, A: Allocator>(
-    searcher: &Searcher<A>,
-    rules: &[&[u8]],
-    task: Task,
-    name: &str,
-    files: &mut I,
-    window: &mut Window,
-    out: &mut S,
-    err: &mut E,
-) -> Result<Outcome, SinkError>
-    ensures given { I.Inputs.given files.new ≡ I.Inputs.given files.old }
-    ensures trouble { IfOk result (λ o. IsTrouble o.trouble (I.failures files.old + window.old.failures) (I.failures files.new + window.new.failures)) }
-    ensures searched { AreSearched (sought_of searcher.now) (map (λ r. r.now) rules.now) task (I.Inputs.given files.old) (name.now ∷ []) (S.taken out.old) (S.taken out.new) (S.failures out.old) (S.failures out.new) result }
-{
-    if !files.open(name) {
-        tell_unread(name, err);
-        return Ok(Outcome {
+impl<A: Allocator> Job<'_, A> {
+    /// Writes what the task asks of each of the files, and returns what came of it. A file that
+    /// cannot be read, or not to its end, is reported on `err`, and the search goes on with the next.
+    pub fn search_files<F: FileSystem, S: Output, M: Messages>(
+        &self,
+        names: &[&str],
+        files: &mut F,
+        window: &mut Window,
+        out: &mut S,
+        err: &mut M,
+    ) -> Result<Outcome, SinkError>
+        ensures reads { OnlyReads (F.sees files.old) (F.sees files.new) }
+        ensures trouble { IfOk result (λ o. IsTrouble o.trouble (F.sees files.old).failures (F.sees files.new).failures) }
+        ensures searched { AreSearched (wanted_of self.now) (F.sees files.old).given (map (λ n. n.now) names.now) (S.sees out.old)
+            (S.sees out.new) (M.sent err.old) (M.sent err.new) result }
+    {
+        let mut outcome = Outcome {
             selected: false,
-            trouble: true,
-        });
+            trouble: false,
+        };
+        for name in names {
+            let found = self.search_named(name, files, window, out, err)?;
+            outcome = outcome.and(found);
+        }
+        Ok(outcome)
     }
-    let outcome = search_open(searcher, rules, task, shown(name), files, window, out)?;
-    if outcome.trouble {
-        tell_unread(name, err);
-    }
-    Ok(outcome)
-}
 
-fn tell_unread<E: Sink>(name: &str, err: &mut E) {
-    let _ = writeln!(SinkText { sink: err }, "daacgrep: cannot read {name}");
+    fn search_named<F: FileSystem, S: Output, M: Messages>(
+        &self,
+        name: &str,
+        files: &mut F,
+        window: &mut Window,
+        out: &mut S,
+        err: &mut M,
+    ) -> Result<Outcome, SinkError>
+        ensures reads { OnlyReads (F.sees files.old) (F.sees files.new) }
+        ensures trouble { IfOk result (λ o. IsTrouble o.trouble (F.sees files.old).failures (F.sees files.new).failures) }
+        ensures searched { AreSearched (wanted_of self.now) (F.sees files.old).given (name.now ∷ []) (S.sees out.old) (S.sees out.new)
+            (M.sent err.old) (M.sent err.new) result }
+    {
+        if !files.open(name) {
+            err.send(Message::Unread(name));
+            return Ok(Outcome {
+                selected: false,
+                trouble: true,
+            });
+        }
+        let outcome = self.search_open(shown(name), files, window, out)?;
+        if outcome.trouble {
+            err.send(Message::Unread(name));
+        }
+        Ok(outcome)
+    }
 }
 
 // The name of a file as it is printed.

@@ -34,7 +34,7 @@ pub enum Flag {
     First,
     /// `--overlapping`: all matches count, also those that overlap.
     Overlapping,
-    /// `--values`: the lines of patterns have values behind a tab, and each line or match has that
+    /// `--values`: the lines of patterns have values after a tab, and each line or match has that
     /// of its pattern in front.
     Values,
     /// `--help`: the usage.

@@ -9,7 +9,7 @@ pub struct Line<'a> {
     pub number: usize,
     /// The place of its first byte in the text.
     pub start: usize,
-    /// Its bytes, without the line feed behind them.
+    /// Its bytes, without the line feed after them.
     pub bytes: &'a [u8],
     ghost within: { start + length bytes.now < 2 ^ 64 },
 }
@@ -21,7 +21,7 @@ pub struct Part<'a> {
     pub before: usize,
     /// The place of their first byte in the text.
     pub start: usize,
-    /// Their bytes, with the marks behind them.
+    /// Their bytes, with the marks after them.
     pub bytes: &'a [u8],
     ghost few: { before ≤ start },
     ghost within: { start + length bytes.now < 2 ^ 64 },

@@ -71,7 +71,7 @@ impl<'a> Iterator for Lines<'a> {
     }
 }
 
-/// Returns the length of the first line, and the place behind it and its mark.
+/// Returns the length of the first line, and the place after it and its mark.
 pub fn first_line(mark: u8, text: &[u8]) -> (usize, usize)
     ensures len { result.0 ≡ position_or_len (λ b. b == mark) text.now }
     ensures end { ((result.0 < length text.now) × (result.1 ≡ result.0 + 1)) ⊎ ((length text.now ≤ result.0) × (result.1 ≡ result.0)) }
@@ -91,10 +91,10 @@ fn mark_place(mark: u8, text: &[u8]) -> Option<usize>
     text.iter().position(|byte| *byte == mark)
 }
 
-/// Returns the place behind the last mark, or 0 if there is none.
-pub fn behind_last(mark: u8, text: &[u8]) -> usize
+/// Returns the place after the last mark, or 0 if there is none.
+pub fn after_last(mark: u8, text: &[u8]) -> usize
     ensures within { result ≤ length text.now }
-    ensures behind { (result ≡ 0) ⊎ ((0 < result) × (slice_index text.now (result - 1) ≡ mark)) }
+    ensures after { (result ≡ 0) ⊎ ((0 < result) × (slice_index text.now (result - 1) ≡ mark)) }
     ensures last { HasNone mark (drop result text.now) }
 {
     let mut place = text.len();

@@ -4,7 +4,9 @@ ghost use Rattle.std.specs.Prelude.{◌≡◌, ◌≤◌, ◌<◌, ◌∷◌, []
 ghost use Rattle.std.specs.Option.{option_map};
 ghost use Rattle.daacgrep_command.specs.declared.options.Role.TheVariants.{Any};
 ghost use Rattle.daacgrep_command.specs.declared.options.Shape.TheVariants.{Letters};
-ghost use Rattle.daacgrep_command.specs.Options.{AreKnown, CanBeMet, IsCause, IsRefusal, Takes, asked, asked_by, clash_of, flag_letters, flag_or_unknown, last_of, letters_ask, long_asks, long_role, options_of, requests, role_after, role_behind, role_of_word, save_clash, shape_of};
+ghost use Rattle.daacgrep_command.specs.Options.{AreKnown, CanBeMet, IsCause, IsRefusal, Takes, asked, asked_by, clash_of, flag_letters};
+ghost use Rattle.daacgrep_command.specs.Options.{flag_or_unknown, last_of, letters_ask, long_asks, long_role, options_of, requests};
+ghost use Rattle.daacgrep_command.specs.Options.{role_after, role_after_letters, role_of_word, save_clash, shape_of};
 ghost use Rattle.daacgrep_command.specs.Flags.{asks, flag_of};
 
 use crate::clash::Clash;
@@ -19,7 +21,7 @@ pub enum OptionError<'a> {
     /// No option is written so.
     #[error("daacgrep: unknown option {0}")]
     Unknown(&'a str),
-    /// The last word is an option that has its argument in a word behind it.
+    /// The last word is an option that has its argument in a word after it.
     #[error("daacgrep: {0} has no argument")]
     Missing(&'static str),
     /// Options do not go together.
@@ -74,9 +76,9 @@ pub enum Role {
 pub enum Shape {
     /// The name of a file.
     Name,
-    /// Letters behind a dash.
+    /// Letters after a dash.
     Letters,
-    /// A word behind two dashes.
+    /// A word after two dashes.
     Long,
     /// Two dashes alone, which end the options.
     End,
@@ -117,11 +119,18 @@ impl<'a, A: Allocator> Model for Options<'a, A> {
 
     ghost Value = { Asked };
 
-    ghost view = { λ o. record { flags = o.flags.items; patterns = map (λ t. t.now) o.patterns.items; pattern_files = map (λ t. t.now) o.pattern_files.items; saves = map (λ t. t.now) o.saves.items; loads = map (λ t. t.now) o.loads.items; files = map (λ t. t.now) o.files.items } };
+    ghost view = { λ o. record {
+      flags = o.flags.items;
+      patterns = map (λ t. t.now) o.patterns.items;
+      pattern_files = map (λ t. t.now) o.pattern_files.items;
+      saves = map (λ t. t.now) o.saves.items;
+      loads = map (λ t. t.now) o.loads.items;
+      files = map (λ t. t.now) o.files.items;
+    } };
 }
 
 impl<'a, A: Allocator + Copy> Options<'a, A> {
-    /// Reads the words behind the program's name.
+    /// Reads the words after the program's name.
     ///
     /// # Errors
     ///
@@ -305,7 +314,7 @@ impl<'a, A: Allocator + Copy> Options<'a, A> {
     fn take_letters(&mut self, word: &'a str, letters: &[u8]) -> Result<Role, OptionError<'a>>
         requires { 0 < length letters.now }
         ensures takes { Takes self.old self.new (letters_ask word.now (flag_letters letters.now)) result }
-        ensures role { IfOk result (λ r. r ≡ role_behind letters.now) }
+        ensures role { IfOk result (λ r. r ≡ role_after_letters letters.now) }
     {
         let (flags, role) = without_argument(letters);
         self.take_flags(word, flags)?;
@@ -341,7 +350,7 @@ fn last_name<'a>(names: &[&'a str]) -> Option<&'a str>
     names.last().copied()
 }
 
-// How the word behind a long option is read, if it is an argument.
+// How the word after a long option is read, if it is an argument.
 fn long_role(word: &str) -> Option<Role>
     ensures { result ≡ long_role word.now }
 {
@@ -352,11 +361,11 @@ fn long_role(word: &str) -> Option<Role>
     }
 }
 
-// The letters before an `e` or an `f` at the end, and how the word behind them is read.
+// The letters before an `e` or an `f` at the end, and how the word after them is read.
 fn without_argument(letters: &[u8]) -> (&[u8], Role)
     requires { 0 < length letters.now }
     ensures front { result.0.now ≡ flag_letters letters.now }
-    ensures role { result.1 ≡ role_behind letters.now }
+    ensures role { result.1 ≡ role_after_letters letters.now }
 {
     let end = letters.len() - 1;
     match letters[end] {

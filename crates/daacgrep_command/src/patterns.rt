@@ -4,39 +4,41 @@ ghost use Rattle.std.specs.Prelude.{◌≡◌, ◌++◌, ◌∷◌, [], IfErr, I
 ghost use Rattle.daachorse_model.specs.Program.{pattern_lines};
 ghost use Rattle.daacgrep_command.specs.Asked.{GivesPatterns, HasRead, closed, names_patterns};
 ghost use Rattle.daacgrep_command.specs.Causes.{IsNoText, IsNotRead};
+ghost use Rattle.daacgrep_command.specs.FileSystems.{OnlyReads};
+ghost use Rattle.daacgrep_command.specs.Messages.{Warns};
 
 use crate::error::CommandError;
+use crate::file_system::FileSystem;
 use crate::lines::Lines;
+use crate::messages::{Message, Messages};
 use crate::options::Options;
-use daacfind_command::inputs::Inputs;
-use daacfind_command::sink::{Sink, SinkText};
 use std::alloc::{AllocError, Global};
-use std::fmt::Write;
 
 /// Returns the text whose lines are those of the patterns that are asked for. A carriage return at
-/// the end of one is told of on `err`.
+/// the end of one is reported on `err`.
 ///
 /// # Errors
 ///
 /// [`CommandError::NoPattern`] if no pattern and no written automaton is named,
 /// [`CommandError::Read`] if a file of patterns cannot be read, and [`CommandError::OutOfMemory`] if
 /// an allocation fails.
-pub fn text<'a, I: Inputs, E: Sink>(
+pub fn text<'a, F: FileSystem, M: Messages>(
     alloc: Global,
     options: &Options<'a, Global>,
-    files: &mut I,
-    err: &mut E,
+    files: &mut F,
+    err: &mut M,
 ) -> Result<Vec<u8>, CommandError<'a>>
-    ensures given { I.given files.new ≡ I.given files.old }
-    ensures ok { IfOk result (λ text. GivesPatterns options.now (I.given files.old) text.items) }
+    ensures reads { OnlyReads (F.sees files.old) (F.sees files.new) }
+    ensures ok { IfOk result (λ text. GivesPatterns options.now (F.sees files.old).given text.items) }
     ensures named { OnOk result (names_patterns options.now ≡ true) }
-    ensures err { IfErr result (IsNoText options.now (I.given files.old)) }
+    ensures warned { OnOk result (Warns (M.sent err.old) (M.sent err.new)) }
+    ensures err { IfErr result (IsNoText options.now (F.sees files.old) (F.sees files.new)) }
 {
     if !names_patterns(options) {
         return Err(CommandError::NoPattern);
     }
     let text = pattern_text(alloc, options, files)?;
-    tell_of_returns(&text, err);
+    report_returns(&text, err);
     Ok(text)
 }
 
@@ -50,14 +52,14 @@ fn names_patterns(options: &Options<'_, Global>) -> bool
 }
 
 // The text whose lines are the patterns.
-fn pattern_text<'a, I: Inputs>(
+fn pattern_text<'a, F: FileSystem>(
     alloc: Global,
     options: &Options<'a, Global>,
-    files: &mut I,
+    files: &mut F,
 ) -> Result<Vec<u8>, CommandError<'a>>
-    ensures given { I.given files.new ≡ I.given files.old }
-    ensures ok { IfOk result (λ text. GivesPatterns options.now (I.given files.old) text.items) }
-    ensures err { IfErr result (IsNotRead (I.given files.old) options.now.pattern_files) }
+    ensures reads { OnlyReads (F.sees files.old) (F.sees files.new) }
+    ensures ok { IfOk result (λ text. GivesPatterns options.now (F.sees files.old).given text.items) }
+    ensures err { IfErr result (IsNotRead (F.sees files.old) (F.sees files.new) options.now.pattern_files) }
 {
     let mut text = Vec::new(alloc);
     add_patterns(options.patterns(), &mut text)?;
@@ -65,7 +67,7 @@ fn pattern_text<'a, I: Inputs>(
     Ok(text)
 }
 
-// Adds each pattern, with a line feed behind it.
+// Adds each pattern, with a line feed after it.
 fn add_patterns(patterns: &[&str], text: &mut Vec<u8>) -> Result<(), AllocError>
     ensures { OnOk result (text.new.items ≡ text.old.items ++ flat_map (λ p. p ++ 10 ∷ []) (map (λ p. p.now) patterns.now)) }
 {
@@ -84,14 +86,14 @@ fn add_line(line: &str, text: &mut Vec<u8>) -> Result<(), AllocError>
 }
 
 // Adds the files of these names.
-fn add_files<'a, I: Inputs>(
+fn add_files<'a, F: FileSystem>(
     names: &[&'a str],
-    files: &mut I,
+    files: &mut F,
     text: &mut Vec<u8>,
 ) -> Result<(), CommandError<'a>>
-    ensures given { I.given files.new ≡ I.given files.old }
-    ensures ok { OnOk result (HasRead (I.given files.old) (map (λ n. n.now) names.now) text.old.items text.new.items) }
-    ensures err { IfErr result (IsNotRead (I.given files.old) (map (λ n. n.now) names.now)) }
+    ensures reads { OnlyReads (F.sees files.old) (F.sees files.new) }
+    ensures ok { OnOk result (HasRead (F.sees files.old).given (map (λ n. n.now) names.now) text.old.items text.new.items) }
+    ensures err { IfErr result (IsNotRead (F.sees files.old) (F.sees files.new) (map (λ n. n.now) names.now)) }
 {
     for name in names {
         let Some(bytes) = files.read(name) else {
@@ -102,7 +104,7 @@ fn add_files<'a, I: Inputs>(
     Ok(())
 }
 
-// Adds a text, with a line feed behind its last line.
+// Adds a text, with a line feed after its last line.
 fn add_closed(bytes: &[u8], text: &mut Vec<u8>) -> Result<(), AllocError>
     ensures { OnOk result (text.new.items ≡ text.old.items ++ closed bytes.now) }
 {
@@ -113,12 +115,11 @@ fn add_closed(bytes: &[u8], text: &mut Vec<u8>) -> Result<(), AllocError>
     Ok(())
 }
 
-fn tell_of_returns<E: Sink>(text: &[u8], err: &mut E) {
+fn report_returns<M: Messages>(text: &[u8], err: &mut M)
+    ensures { Warns (M.sent err.old) (M.sent err.new) }
+{
     if text.windows(2).any(|pair| pair == b"\r\n".as_slice()) {
-        let _ = writeln!(
-            SinkText { sink: err },
-            "daacgrep: a line of patterns ends with a carriage return, which is part of it"
-        );
+        err.send(Message::CarriageReturn);
     }
 }
 

@@ -1,12 +1,13 @@
 //! What is written of a line, of a match, and of a number of lines.
 
 ghost use Rattle.std.specs.Prelude.{◌+◌, ◌<◌, ◌∷◌, ◌++◌, [], decimal};
-ghost use Rattle.daacfind_command.specs.Runs.{IsWritten};
 ghost use Rattle.daacgrep_command.specs.Fields.{entry, name_field, number_field};
+ghost use Rattle.daacgrep_command.specs.Sending.{IsWritten};
 
-use daacfind_command::sink::{Sink, SinkError, write_whole};
+use crate::output::Output;
+use daacfind_command::sink::SinkError;
 
-/// What stands in front of a line or a match, each with a colon behind it, and what stands behind.
+/// What stands in front of a line or a match, each with a colon after it, and what stands after it.
 #[derive(Clone, Copy, Debug, PartialEq, Eq)]
 pub struct Labels {
     /// The name of the file.
@@ -17,12 +18,12 @@ pub struct Labels {
     pub places: bool,
     /// The value of the pattern.
     pub values: bool,
-    /// The byte behind it.
+    /// The byte after it.
     pub end: u8,
 }
 
 /// Writes a text with its labels.
-pub fn write_entry<S: Sink>(
+pub fn write_entry<S: Output>(
     labels: Labels,
     name: &str,
     number: usize,
@@ -31,7 +32,7 @@ pub fn write_entry<S: Sink>(
     text: &[u8],
     out: &mut S,
 ) -> Result<(), SinkError>
-    ensures { IsWritten (S.taken out.old) (S.taken out.new) (S.failures out.old) (S.failures out.new) result (entry labels name.now number place value.now text.now) }
+    ensures { IsWritten (S.sees out.old) (S.sees out.new) result (entry labels name.now number place value.now text.now) }
 {
     write_name(labels.names, name.as_bytes(), out)?;
     write_field(labels.numbers, number, out)?;
@@ -40,30 +41,30 @@ pub fn write_entry<S: Sink>(
     write_marked(text, labels.end, out)
 }
 
-/// Writes a number of lines and a line feed, behind the file's name if that is wanted.
-pub fn write_count<S: Sink>(
+/// Writes a number of lines and a line feed, after the file's name if that is wanted.
+pub fn write_count<S: Output>(
     is_named: bool,
     name: &str,
     count: usize,
     out: &mut S,
 ) -> Result<(), SinkError>
-    ensures { IsWritten (S.taken out.old) (S.taken out.new) (S.failures out.old) (S.failures out.new) result (name_field is_named name.now ++ (decimal count ++ 10 ∷ [])) }
+    ensures { IsWritten (S.sees out.old) (S.sees out.new) result (name_field is_named name.now ++ (decimal count ++ 10 ∷ [])) }
 {
     write_name(is_named, name.as_bytes(), out)?;
     write_marked_number(count, b'\n', out)
 }
 
-/// Writes a text and a mark behind it.
-pub fn write_marked<S: Sink>(text: &[u8], mark: u8, out: &mut S) -> Result<(), SinkError>
-    ensures { IsWritten (S.taken out.old) (S.taken out.new) (S.failures out.old) (S.failures out.new) result (text.now ++ mark ∷ []) }
+/// Writes a text and a mark after it.
+pub fn write_marked<S: Output>(text: &[u8], mark: u8, out: &mut S) -> Result<(), SinkError>
+    ensures { IsWritten (S.sees out.old) (S.sees out.new) result (text.now ++ mark ∷ []) }
 {
-    write_whole(out, text)?;
-    write_whole(out, &[mark])
+    out.write(text)?;
+    out.write(&[mark])
 }
 
 // Writes a name or a value.
-fn write_name<S: Sink>(is_wanted: bool, name: &[u8], out: &mut S) -> Result<(), SinkError>
-    ensures { IsWritten (S.taken out.old) (S.taken out.new) (S.failures out.old) (S.failures out.new) result (name_field is_wanted name.now) }
+fn write_name<S: Output>(is_wanted: bool, name: &[u8], out: &mut S) -> Result<(), SinkError>
+    ensures { IsWritten (S.sees out.old) (S.sees out.new) result (name_field is_wanted name.now) }
 {
     if is_wanted {
         write_marked(name, b':', out)
@@ -72,8 +73,8 @@ fn write_name<S: Sink>(is_wanted: bool, name: &[u8], out: &mut S) -> Result<(), 
     }
 }
 
-fn write_field<S: Sink>(is_wanted: bool, number: usize, out: &mut S) -> Result<(), SinkError>
-    ensures { IsWritten (S.taken out.old) (S.taken out.new) (S.failures out.old) (S.failures out.new) result (number_field is_wanted number) }
+fn write_field<S: Output>(is_wanted: bool, number: usize, out: &mut S) -> Result<(), SinkError>
+    ensures { IsWritten (S.sees out.old) (S.sees out.new) result (number_field is_wanted number) }
 {
     if is_wanted {
         write_marked_number(number, b':', out)
@@ -82,16 +83,16 @@ fn write_field<S: Sink>(is_wanted: bool, number: usize, out: &mut S) -> Result<(
     }
 }
 
-// Writes a number and a mark behind it.
-fn write_marked_number<S: Sink>(number: usize, mark: u8, out: &mut S) -> Result<(), SinkError>
-    ensures { IsWritten (S.taken out.old) (S.taken out.new) (S.failures out.old) (S.failures out.new) result (decimal number ++ mark ∷ []) }
+// Writes a number and a mark after it.
+fn write_marked_number<S: Output>(number: usize, mark: u8, out: &mut S) -> Result<(), SinkError>
+    ensures { IsWritten (S.sees out.old) (S.sees out.new) result (decimal number ++ mark ∷ []) }
 {
     write_number(number, out)?;
-    write_whole(out, &[mark])
+    out.write(&[mark])
 }
 
-fn write_number<S: Sink>(number: usize, out: &mut S) -> Result<(), SinkError>
-    ensures { IsWritten (S.taken out.old) (S.taken out.new) (S.failures out.old) (S.failures out.new) result (decimal number) }
+fn write_number<S: Output>(number: usize, out: &mut S) -> Result<(), SinkError>
+    ensures { IsWritten (S.sees out.old) (S.sees out.new) result (decimal number) }
 {
     if number < 10 {
         return write_digit(number, out);
@@ -100,9 +101,9 @@ fn write_number<S: Sink>(number: usize, out: &mut S) -> Result<(), SinkError>
     write_digit(number % 10, out)
 }
 
-fn write_digit<S: Sink>(digit: usize, out: &mut S) -> Result<(), SinkError>
+fn write_digit<S: Output>(digit: usize, out: &mut S) -> Result<(), SinkError>
     requires { digit < 10 }
-    ensures { IsWritten (S.taken out.old) (S.taken out.new) (S.failures out.old) (S.failures out.new) result ((48 + digit) ∷ []) }
+    ensures { IsWritten (S.sees out.old) (S.sees out.new) result ((48 + digit) ∷ []) }
 {
-    write_whole(out, &[b'0' + digit as u8])
+    out.write(&[b'0' + digit as u8])
 }

@@ -4,9 +4,7 @@ ghost use Rattle.std.specs.Prelude.{◌≤◌, IfOk, length};
 ghost use Rattle.std.specs.Io.KnownBytes.{ReadConsumes};
 
 use crate::command::command;
-use crate::outputs::Outputs;
-use crate::streams::{ReadError, Streams};
-use daacfind_command::inputs::Inputs;
+use crate::file_system::{FileSystem, ReadError};
 use daacfind_command::sink::{SinkError, WriterSink};
 use daachorse::counter::Counter;
 use std::alloc::Global;
@@ -16,13 +14,14 @@ use std::process::ExitCode;
 use std::rt::{Env, Files};
 use std::{env, fs};
 
-/// The files of the system, and standard input by the name `-`.
+/// The files of the system, and by the name `-` standard input, or standard output where a file is
+/// written.
 #[derive(Drop)]
-pub struct SystemInputs<'a, R: Files + Input + AllocGlobal> {
+pub struct SystemFiles<'a, R: Files + Input + Print + AllocGlobal> {
     rt: &'a R,
     // What is read piece by piece.
     opened: Option<Opened<R::File, R::Reader>>,
-    // How often a file could not be opened, or not be read on, for contracts alone.
+    // How often a file could not be read, for contracts alone.
     failures: Counter,
 }
 
@@ -35,13 +34,8 @@ enum Opened<F, I> {
 // How often a read that was interrupted is tried again.
 const TRIES: u32 = 1000;
 
-impl<R: Files + Input + AllocGlobal> Inputs for SystemInputs<'_, R> {
-    ghost use Rattle.std.specs.Prelude.{None};
-
-    // No contract can say what a file has.
-    ghost given = { λ _. None };
-
-    fn read(&mut self, name: &str) -> Option<Vec<u8>> {
+impl<R: Files + Input + Print + AllocGlobal> SystemFiles<'_, R> {
+    fn bytes_of(&self, name: &str) -> Option<Vec<u8>> {
         if name == "-" {
             let mut bytes = Vec::new(self.rt.alloc());
             self.rt.reader().read_to_end(&mut bytes).ok()?;
@@ -52,13 +46,21 @@ impl<R: Files + Input + AllocGlobal> Inputs for SystemInputs<'_, R> {
     }
 }
 
-impl<R: Files + Input + AllocGlobal> Streams for SystemInputs<'_, R> {
+impl<R: Files + Input + Print + AllocGlobal> FileSystem for SystemFiles<'_, R> {
     ghost use Rattle.std.specs.Prelude.{None};
 
     // No contract can say what a file has.
+    ghost sees = { λ s. record { given = None; saved = None; failures = s.failures } };
+
     ghost left = { λ _. None };
 
-    ghost failures = { λ s. s.failures };
+    fn read(&mut self, name: &str) -> Option<Vec<u8>> {
+        let bytes = self.bytes_of(name);
+        if bytes.is_none() {
+            self.failures.increment();
+        }
+        bytes
+    }
 
     fn open(&mut self, name: &str) -> bool {
         self.opened = if name == "-" {
@@ -86,6 +88,20 @@ impl<R: Files + Input + AllocGlobal> Streams for SystemInputs<'_, R> {
         }
         read
     }
+
+    fn give_up(&mut self) {
+        self.opened = None;
+        self.failures.increment();
+    }
+
+    fn write(&mut self, name: &str, bytes: &[u8]) -> Result<(), SinkError> {
+        let written = if name == "-" {
+            io::writer(self.rt).write_all(bytes)
+        } else {
+            fs::write(self.rt, name, bytes)
+        };
+        written.map_err(|_| SinkError)
+    }
 }
 
 // Reads the next bytes, and returns how many. A read that was interrupted is tried again.
@@ -101,28 +117,6 @@ fn read_of<R: Read>(from: &mut R, buffer: &mut [u8]) -> Result<usize, ReadError>
         }
     }
     Err(ReadError)
-}
-
-/// The files of the system, and standard output by the name `-`.
-#[derive(Drop)]
-pub struct SystemOutputs<'a, R: Files + Print> {
-    rt: &'a R,
-}
-
-impl<R: Files + Print> Outputs for SystemOutputs<'_, R> {
-    ghost use Rattle.std.specs.Prelude.{None};
-
-    // No contract can say what a file has.
-    ghost saved = { λ _. None };
-
-    fn write(&mut self, name: &str, bytes: &[u8]) -> Result<(), SinkError> {
-        let written = if name == "-" {
-            io::writer(self.rt).write_all(bytes)
-        } else {
-            fs::write(self.rt, name, bytes)
-        };
-        written.map_err(|_| SinkError)
-    }
 }
 
 /// Runs the command with the program's own words, files and streams.
@@ -149,12 +143,11 @@ fn status(rt: &HostRuntime) -> io::Result<u8> {
     Ok(command(
         rt.alloc(),
         &words,
-        &mut SystemInputs {
+        &mut SystemFiles {
             rt,
             opened: None,
             failures: Counter::new(),
         },
-        &mut SystemOutputs { rt },
         &mut WriterSink::new(out),
         &mut WriterSink::new(rt.stderr()),
     ))

@@ -1,4 +1,4 @@
-//! The lines of the patterns, each of which may have a value behind a tab.
+//! The lines of the patterns, each of which may have a value after a tab.
 
 ghost use Rattle.std.specs.Prelude.{◌≡◌, map};
 ghost use Rattle.daacgrep_command.specs.Rules.{match_value, pattern_of, value_of};
@@ -18,7 +18,7 @@ pub fn pattern_of(has_value: bool, line: &[u8]) -> &[u8]
     }
 }
 
-/// Returns the value of a line: what stands behind its first tab.
+/// Returns the value of a line: what stands after its first tab.
 pub fn value_of(line: &[u8]) -> &[u8]
     ensures { result.now ≡ value_of line.now }
 {

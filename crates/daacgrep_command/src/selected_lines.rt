@@ -37,9 +37,11 @@ impl<'a, A: Allocator> Model for SelectedLines<'a, A> {
 
     ghost Value = { List TextLine };
 
-    ghost view = { λ s. map (numbered s.has_numbers) (filter (λ line. is_selected (sought_of s.searcher.now) s.inverts line.bytes) (lines_from s.given s.start (pieces_of s.mark s.rest.now))) };
+    ghost view = { λ s. map (numbered s.has_numbers) (filter (λ line. is_selected (sought_of s.searcher.now) s.inverts line.bytes)
+        (lines_from s.given s.start (pieces_of s.mark s.rest.now))) };
 
-    ghost invariant = { λ s. (s.given ≤ s.start) × (s.start + length s.rest.now < 2 ^ 64) × AreClear (sought_of s.searcher.now) s.mark s.clear s.rest.now };
+    ghost invariant = { λ s. (s.given ≤ s.start) × (s.start + length s.rest.now < 2 ^ 64)
+        × AreClear (sought_of s.searcher.now) s.mark s.clear s.rest.now };
 }
 
 impl<'a, A: Allocator> SelectedLines<'a, A> {
@@ -51,7 +53,8 @@ impl<'a, A: Allocator> SelectedLines<'a, A> {
         mark: u8,
         part: Part<'a>,
     ) -> Self
-        ensures { result ≡ map (numbered has_numbers) (filter (λ line. is_selected (sought_of searcher.entry.now) inverts line.bytes) (lines_from part.entry.before part.entry.start (pieces_of mark part.entry.bytes.now))) }
+        ensures { result ≡ map (numbered has_numbers) (filter (λ line. is_selected (sought_of searcher.entry.now) inverts line.bytes)
+            (lines_from part.entry.before part.entry.start (pieces_of mark part.entry.bytes.now))) }
     {
         SelectedLines {
             searcher,
@@ -91,7 +94,7 @@ impl<'a, A: Allocator> Iterator for SelectedLines<'a, A> {
         };
         let from = &self.rest[next.skip..];
         let line = Line {
-            number: number_behind(
+            number: number_after(
                 self.has_numbers,
                 self.given,
                 self.mark,
@@ -108,8 +111,8 @@ impl<'a, A: Allocator> Iterator for SelectedLines<'a, A> {
     }
 }
 
-// The number of the line behind these lines, if it is asked for, and else 0.
-fn number_behind(is_asked: bool, given: usize, mark: u8, lines: &[u8]) -> usize
+// The number of the line after these lines, if it is asked for, and else 0.
+fn number_after(is_asked: bool, given: usize, mark: u8, lines: &[u8]) -> usize
     requires { given + length lines.now + 1 < 2 ^ 64 }
     ensures { result ≡ (if is_asked then given + count_by (λ b. b == mark) lines.now + 1 else 0) }
 {

@@ -1,21 +1,20 @@
 //! A part of a file that is read piece by piece.
 
-ghost use Rattle.std.specs.Prelude.{◌≡◌, ◌⊎◌, ◌+◌, ◌-◌, ◌<◌, ◌≤◌, ◌==◌, ◌^◌, [], ℕ, IfOk, List, OnErr, count_by, drop, length, slice_index, take};
+ghost use Rattle.std.specs.Prelude.{◌≡◌, ◌⊎◌, ◌-◌, ◌+◌, ◌<◌, ◌≤◌, ◌==◌, ◌^◌, [], ℕ, IfOk, List, OnErr, count_by, drop, is_ok, length};
+ghost use Rattle.std.specs.Prelude.{slice_index, take};
 ghost use Rattle.std.specs.Io.KnownBytes.{Consumes};
-ghost use Rattle.daacgrep_command.specs.Streams.{failures_after};
+ghost use Rattle.daacgrep_command.specs.FileSystems.{after_reading};
 ghost use Rattle.daacgrep_command.specs.Windows.{HasNone, IsReadOn};
 
-use crate::lines::behind_last;
-use crate::streams::{ReadError, Streams};
-use daachorse::counter::Counter;
+use crate::file_system::{FileSystem, ReadError};
+use crate::lines::after_last;
 use std::alloc::{AllocError, Global};
 use std::marker::Model;
 
 // How many bytes are read at a time.
 const PIECE: usize = 65536;
 
-/// What is held of a file: bytes that were read and not yet passed over. Its count of failures is for
-/// contracts alone, and takes no space.
+/// What is held of a file: bytes that were read and not yet passed over.
 #[derive(Drop)]
 pub struct Window {
     piece: Vec<u8>,
@@ -24,8 +23,6 @@ pub struct Window {
     start: usize,
     // The byte that ends lines.
     mark: u8,
-    // How often there was no room for what was read.
-    failures: Counter,
 }
 
 impl Model for Window {
@@ -34,7 +31,7 @@ impl Model for Window {
 
     ghost Value = { Held };
 
-    ghost view = { λ s. record { start = s.start; bytes = s.held.items; mark = s.mark; failures = s.failures } };
+    ghost view = { λ s. record { start = s.start; bytes = s.held.items; mark = s.mark } };
 
     ghost invariant = { λ s. (0 < length s.piece.items) × (s.start + length s.held.items < 2 ^ 64) };
 }
@@ -42,21 +39,19 @@ impl Model for Window {
 impl Window {
     /// A window that holds nothing.
     pub fn new(alloc: Global) -> Result<Window, AllocError>
-        ensures { IfOk result (λ w. w.failures ≡ 0) }
+        ensures { IfOk result (λ w. w.bytes ≡ []) }
     {
         Ok(Window {
             piece: Vec::from_elem(alloc, 0u8, PIECE)?,
             held: Vec::new(alloc),
             start: 0,
             mark: b'\n',
-            failures: Counter::new(),
         })
     }
 
     /// Begins at the front of a file, where the mark ends lines.
     pub fn begin(&mut self, mark: u8)
         ensures mark { self.new.mark ≡ mark }
-        ensures failures { self.new.failures ≡ self.old.failures }
         ensures start { self.new.start ≡ 0 }
         ensures bytes { self.new.bytes ≡ [] }
     {
@@ -88,38 +83,31 @@ impl Window {
     /// # Errors
     ///
     /// An error of the file, a failed allocation, or a place that is too great.
-    pub fn read_on<I: Streams>(&mut self, files: &mut I) -> Result<usize, ReadError>
+    pub fn read_on<F: FileSystem>(&mut self, files: &mut F) -> Result<usize, ReadError>
         requires passed { HasNone self.old.mark self.old.bytes }
-        ensures same { I.Inputs.given files.new ≡ I.Inputs.given files.old }
         ensures start { self.new.start ≡ self.old.start }
         ensures mark { self.new.mark ≡ self.old.mark }
         ensures within { self.new.start + length self.new.bytes < 2 ^ 64 }
-        ensures failures { I.failures files.new + self.new.failures ≡ failures_after result (I.failures files.old + self.old.failures) }
-        ensures ok { IfOk result (λ n. IsReadOn (I.left files.old) (I.left files.new) self.old.bytes self.new.bytes n) }
+        ensures counted { F.sees files.new ≡ after_reading (is_ok result) (F.sees files.old) }
+        ensures ok { IfOk result (λ n. IsReadOn (F.left files.old) (F.left files.new) self.old.bytes self.new.bytes n) }
         ensures kept { OnErr result (self.new.bytes ≡ self.old.bytes) }
-        ensures lost { OnErr result ((lost : List ℕ) × Consumes (I.left files.old) (I.left files.new) lost) }
+        ensures lost { OnErr result ((lost : List ℕ) × Consumes (F.left files.old) (F.left files.new) lost) }
     {
         let count = files.read_next(&mut self.piece)?;
         let len = self.held.len() + count;
         if self.start.checked_add(len).is_none() {
             let is_too_far = usize::MAX - self.start < len;
             prove!(is_too_far);
-            return Err(self.fail());
+            files.give_up();
+            return Err(ReadError);
         }
         match self.held.extend_from_slice(&self.piece[..count]) {
             Ok(()) => Ok(count),
-            Err(AllocError) => Err(self.fail()),
+            Err(AllocError) => {
+                files.give_up();
+                Err(ReadError)
+            }
         }
-    }
-
-    fn fail(&mut self) -> ReadError
-        ensures start { self.new.start ≡ self.old.start }
-        ensures bytes { self.new.bytes ≡ self.old.bytes }
-        ensures mark { self.new.mark ≡ self.old.mark }
-        ensures failures { self.new.failures ≡ self.old.failures + 1 }
-    {
-        self.failures.increment();
-        ReadError
     }
 
     /// Returns how many bytes the lines take that are complete, where the last `count` bytes are new.
@@ -131,7 +119,7 @@ impl Window {
         ensures rest { HasNone self.now.mark (drop result self.now.bytes) }
     {
         let old = self.held.len() - count;
-        match behind_last(self.mark, &self.held[old..]) {
+        match after_last(self.mark, &self.held[old..]) {
             0 => 0,
             place => old + place,
         }
@@ -141,7 +129,6 @@ impl Window {
     pub fn pass(&mut self, count: usize)
         requires { count ≤ length self.old.bytes }
         ensures mark { self.new.mark ≡ self.old.mark }
-        ensures failures { self.new.failures ≡ self.old.failures }
         ensures start { self.new.start ≡ self.old.start + count }
         ensures bytes { self.new.bytes ≡ drop count self.old.bytes }
     {

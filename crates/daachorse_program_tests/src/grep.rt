@@ -4,23 +4,23 @@ ghost use Rattle.std.specs.Prelude.{None};
 
 use crate::expect;
 use crate::halting::Halting;
-use daacfind_command::inputs::Inputs;
 use daacfind_command::sink::{SinkError, WriterSink};
 use daacgrep_command::command::command;
-use daacgrep_command::outputs::Outputs;
-use daacgrep_command::streams::{ReadError, Streams};
+use daacgrep_command::file_system::{FileSystem, ReadError};
 use daachorse::counter::Counter;
 use std::alloc::Global;
 
-/// A few files in memory, one of them the automaton.
+/// A few files in memory, one of them the automaton, and the file that was written last.
 #[derive(Drop)]
 struct Memory<'a> {
     alloc: Global,
     automaton: &'a [u8],
-    // What is left of the file that is open, and whether an error stands behind it.
+    // What is left of the file that is open, and whether an error follows.
     opened: Vec<u8>,
     is_torn: bool,
-    // How often a file could not be opened, or not be read on.
+    // What the file has that was written last.
+    saved: Vec<u8>,
+    // How often a file could not be read.
     failures: Counter,
 }
 
@@ -41,18 +41,18 @@ impl Memory<'_> {
     }
 }
 
-impl Inputs for Memory<'_> {
-    ghost given = { λ _. None };
+impl FileSystem for Memory<'_> {
+    ghost sees = { λ s. record { given = None; saved = None; failures = s.failures } };
 
-    fn read(&mut self, name: &str) -> Option<Vec<u8>> {
-        self.bytes_of(name)
-    }
-}
-
-impl Streams for Memory<'_> {
     ghost left = { λ _. None };
 
-    ghost failures = { λ s. s.failures };
+    fn read(&mut self, name: &str) -> Option<Vec<u8>> {
+        let bytes = self.bytes_of(name);
+        if bytes.is_none() {
+            self.failures.increment();
+        }
+        bytes
+    }
 
     fn open(&mut self, name: &str) -> bool {
         let Some(bytes) = self.bytes_of(name) else {
@@ -77,23 +77,16 @@ impl Streams for Memory<'_> {
         self.opened.truncate(len - count);
         Ok(count)
     }
-}
 
-/// The file that was written last.
-#[derive(Drop)]
-struct Store {
-    alloc: Global,
-    bytes: Vec<u8>,
-}
-
-impl Outputs for Store {
-    ghost saved = { λ _. None };
+    fn give_up(&mut self) {
+        self.failures.increment();
+    }
 
     fn write(&mut self, name: &str, bytes: &[u8]) -> Result<(), SinkError> {
         if name == "locked" {
             return Err(SinkError);
         }
-        self.bytes = Vec::from_slice(self.alloc, bytes).map_err(|_| SinkError)?;
+        self.saved = Vec::from_slice(self.alloc, bytes).map_err(|_| SinkError)?;
         Ok(())
     }
 }
@@ -106,7 +99,7 @@ struct Row {
     words: &'static [&'static str],
     status: u8,
     written: &'static str,
-    told: &'static str,
+    reported: &'static str,
 }
 
 // What `--help` prints, in a function of its own, since a proof writes out each constant that it meets.
@@ -144,56 +137,56 @@ const ROWS: &[Row] = &[
         words: &["-f", "words", "log"],
         status: 0,
         written: "an error\nabab\n",
-        told: "",
+        reported: "",
     },
     Row {
         shows: "a pattern of -e",
         words: &["-e", "err", "log"],
         status: 0,
         written: "an error\n",
-        told: "",
+        reported: "",
     },
     Row {
         shows: "numbers",
         words: &["-n", "-f", "words", "log"],
         status: 0,
         written: "1:an error\n3:abab\n",
-        told: "",
+        reported: "",
     },
     Row {
         shows: "places",
         words: &["-b", "-f", "words", "log"],
         status: 0,
         written: "0:an error\n14:abab\n",
-        told: "",
+        reported: "",
     },
     Row {
         shows: "matches with their numbers and places",
         words: &["-nob", "-f", "words", "log"],
         status: 0,
         written: "1:3:error\n3:14:ab\n3:16:ab\n",
-        told: "",
+        reported: "",
     },
     Row {
         shows: "the longest match",
         words: &["-o", "-e", "ab", "-e", "aba", "log"],
         status: 0,
         written: "aba\n",
-        told: "",
+        reported: "",
     },
     Row {
         shows: "the longest match, asked for",
         words: &["--longest", "-o", "-e", "ab", "-e", "aba", "log"],
         status: 0,
         written: "aba\n",
-        told: "",
+        reported: "",
     },
     Row {
         shows: "the match of the first pattern",
         words: &["--first", "-o", "-e", "ab", "-e", "aba", "log"],
         status: 0,
         written: "ab\nab\n",
-        told: "",
+        reported: "",
     },
     Row {
         shows: "all matches",
@@ -210,7 +203,7 @@ const ROWS: &[Row] = &[
         ],
         status: 0,
         written: "14:ab\n15:b\n14:aba\n16:ab\n17:b\n",
-        told: "",
+        reported: "",
     },
     Row {
         shows: "all matches, asked for beside others",
@@ -227,14 +220,14 @@ const ROWS: &[Row] = &[
         ],
         status: 0,
         written: "ab\naba\nab\n",
-        told: "",
+        reported: "",
     },
     Row {
         shows: "lines by all matches",
         words: &["--overlapping", "-n", "-f", "words", "log"],
         status: 0,
         written: "1:an error\n3:abab\n",
-        told: "",
+        reported: "",
     },
     Row {
         shows: "the values of all matches",
@@ -252,259 +245,259 @@ const ROWS: &[Row] = &[
         ],
         status: 0,
         written: "one:ab\nthree:ab\ntwo:aba\none:ab\nthree:ab\n",
-        told: "",
+        reported: "",
     },
     Row {
         shows: "carriage returns in a file of patterns",
         words: &["-n", "-f", "returns", "-e", "err", "log", "returns"],
         status: 0,
         written: "log:1:an error\nreturns:1:fine\r\nreturns:2:abab\r\n",
-        told: "daacgrep: a line of patterns ends with a carriage return, which is part of it\n",
+        reported: "daacgrep: a line of patterns ends with a carriage return, which is part of it\n",
     },
     Row {
         shows: "lines that end with zero bytes",
         words: &["--null-data", "-nb", "-f", "words", "records"],
         status: 0,
         written: "1:0:a b\nab\03:12:ab\0",
-        told: "",
+        reported: "",
     },
     Row {
         shows: "matches in lines that end with zero bytes",
         words: &["--null-data", "-ob", "-f", "words", "records"],
         status: 0,
         written: "4:ab\012:ab\0",
-        told: "",
+        reported: "",
     },
     Row {
         shows: "a count of lines that end with zero bytes",
         words: &["--null-data", "-cv", "-f", "words", "records"],
         status: 0,
         written: "1\n",
-        told: "",
+        reported: "",
     },
     Row {
-        shows: "values behind a tab",
+        shows: "values after a tab",
         words: &["--values", "-f", "rules", "log"],
         status: 0,
         written: "bad\tword:an error\n:fine\nletters:abab\n",
-        told: "",
+        reported: "",
     },
     Row {
-        shows: "values of matches behind their names, numbers and places",
+        shows: "values of matches after their names, numbers and places",
         words: &["-Hnob", "--values", "-f", "rules", "log"],
         status: 0,
         written: "log:1:3:bad\tword:error\nlog:2:9::fine\nlog:3:14:letters:ab\nlog:3:16:letters:ab\n",
-        told: "",
+        reported: "",
     },
     Row {
         shows: "the value of the first match in a line",
         words: &["--values", "-e", "error\tlast", "-e", "an\tfirst", "log"],
         status: 0,
         written: "first:an error\n",
-        told: "",
+        reported: "",
     },
     Row {
         shows: "no value of a line without a match",
         words: &["-v", "--values", "-e", "ab\tletters", "log"],
         status: 0,
         written: ":an error\n:fine\n",
-        told: "",
+        reported: "",
     },
     Row {
         shows: "a tab in a pattern without a value",
         words: &["-c", "-e", "ab\tletters", "log"],
         status: 1,
         written: "0\n",
-        told: "",
+        reported: "",
     },
     Row {
         shows: "no case",
         words: &["-oi", "-e", "ERROR", "log"],
         status: 0,
         written: "error\n",
-        told: "",
+        reported: "",
     },
     Row {
         shows: "the lines without a match",
         words: &["-vn", "-f", "words", "log"],
         status: 0,
         written: "2:fine\n",
-        told: "",
+        reported: "",
     },
     Row {
         shows: "no match of a line without one",
         words: &["-vo", "-f", "words", "log"],
         status: 0,
         written: "",
-        told: "",
+        reported: "",
     },
     Row {
         shows: "a count",
         words: &["-c", "-f", "words", "log"],
         status: 0,
         written: "2\n",
-        told: "",
+        reported: "",
     },
     Row {
         shows: "counts with names",
         words: &["-c", "-f", "words", "log", "empty"],
         status: 0,
         written: "log:2\nempty:0\n",
-        told: "",
+        reported: "",
     },
     Row {
         shows: "names of files",
         words: &["-l", "-f", "words", "empty", "log"],
         status: 0,
         written: "log\n",
-        told: "",
+        reported: "",
     },
     Row {
         shows: "nothing printed",
         words: &["-q", "-f", "words", "log"],
         status: 0,
         written: "",
-        told: "",
+        reported: "",
     },
     Row {
         shows: "a file that cannot be read to its end",
         words: &["-n", "-f", "words", "torn", "log"],
         status: 2,
         written: "torn:1:an error\ntorn:3:ab\nlog:1:an error\nlog:3:abab\n",
-        told: "daacgrep: cannot read torn\n",
+        reported: "daacgrep: cannot read torn\n",
     },
     Row {
         shows: "several files",
         words: &["-f", "words", "log", "log"],
         status: 0,
         written: "log:an error\nlog:abab\nlog:an error\nlog:abab\n",
-        told: "",
+        reported: "",
     },
     Row {
         shows: "several files without names",
         words: &["-hf", "words", "log", "log"],
         status: 0,
         written: "an error\nabab\nan error\nabab\n",
-        told: "",
+        reported: "",
     },
     Row {
         shows: "a name for one file",
         words: &["-Hf", "words", "log"],
         status: 0,
         written: "log:an error\nlog:abab\n",
-        told: "",
+        reported: "",
     },
     Row {
         shows: "standard input",
         words: &["-Hne", "fine"],
         status: 0,
         written: "(standard input):2:fine\n",
-        told: "",
+        reported: "",
     },
     Row {
         shows: "no line",
         words: &["-e", "absent", "log"],
         status: 1,
         written: "",
-        told: "",
+        reported: "",
     },
     Row {
         shows: "no pattern in a file of patterns",
         words: &["-f", "empty", "log"],
         status: 1,
         written: "",
-        told: "",
+        reported: "",
     },
     Row {
         shows: "an empty pattern",
         words: &["-c", "-e", "", "log"],
         status: 0,
         written: "3\n",
-        told: "",
+        reported: "",
     },
     Row {
         shows: "an empty pattern has no match to print",
         words: &["-o", "-e", "", "log"],
         status: 0,
         written: "",
-        told: "",
+        reported: "",
     },
     Row {
         shows: "a line that does not end",
         words: &["-e", "open", "open"],
         status: 0,
         written: "open\n",
-        told: "",
+        reported: "",
     },
     Row {
         shows: "a file that cannot be read",
         words: &["-f", "words", "lost", "log"],
         status: 2,
         written: "log:an error\nlog:abab\n",
-        told: "daacgrep: cannot read lost\n",
+        reported: "daacgrep: cannot read lost\n",
     },
     Row {
         shows: "a quiet search with a match and trouble",
         words: &["-qf", "words", "lost", "log"],
         status: 0,
         written: "",
-        told: "daacgrep: cannot read lost\n",
+        reported: "daacgrep: cannot read lost\n",
     },
     Row {
         shows: "a quiet search with trouble alone",
         words: &["-qe", "absent", "lost", "log"],
         status: 2,
         written: "",
-        told: "daacgrep: cannot read lost\n",
+        reported: "daacgrep: cannot read lost\n",
     },
     Row {
         shows: "patterns that cannot be read",
         words: &["-f", "lost", "log"],
         status: 2,
         written: "",
-        told: "daacgrep: cannot read lost\n",
+        reported: "daacgrep: cannot read lost\n",
     },
     Row {
         shows: "no pattern",
         words: &["log"],
         status: 2,
         written: "",
-        told: "daacgrep: no pattern: -e PATTERN, -f FILE or --load FILE is wanted; see daacgrep --help\n",
+        reported: "daacgrep: no pattern: -e PATTERN, -f FILE or --load FILE is wanted; see daacgrep --help\n",
     },
     Row {
         shows: "an unknown letter",
         words: &["-nx", "-e", "a", "log"],
         status: 2,
         written: "",
-        told: "daacgrep: unknown option -nx\n",
+        reported: "daacgrep: unknown option -nx\n",
     },
     Row {
         shows: "an unknown word",
         words: &["--lines", "log"],
         status: 2,
         written: "",
-        told: "daacgrep: unknown option --lines\n",
+        reported: "daacgrep: unknown option --lines\n",
     },
     Row {
         shows: "a missing argument",
         words: &["log", "-ne"],
         status: 2,
         written: "",
-        told: "daacgrep: -e has no argument\n",
+        reported: "daacgrep: -e has no argument\n",
     },
     Row {
-        shows: "names behind two dashes",
+        shows: "names after two dashes",
         words: &["-c", "-e", "a", "--", "-q"],
         status: 2,
         written: "",
-        told: "daacgrep: cannot read -q\n",
+        reported: "daacgrep: cannot read -q\n",
     },
     Row {
         shows: "the version",
         words: &["--version"],
         status: 0,
         written: "daacgrep 1.0.0\n",
-        told: "",
+        reported: "",
     },
 ];
 
@@ -514,15 +507,15 @@ struct Left {
     status: u8,
     out: WriterSink<Halting>,
     err: WriterSink<Vec<u8>>,
-    saved: Store,
+    saved: Vec<u8>,
 }
 
 impl Left {
     // Whether it is so.
-    fn is(&self, status: u8, written: &[u8], told: &[u8]) -> bool {
+    fn is(&self, status: u8, written: &[u8], reported: &[u8]) -> bool {
         self.status == status
             && self.out.writer().taken.as_slice() == written
-            && self.err.writer().as_slice() == told
+            && self.err.writer().as_slice() == reported
     }
 }
 
@@ -534,20 +527,17 @@ fn ran(alloc: Global, automaton: &[u8], words: &[&str], room: usize) -> Left {
         automaton,
         opened: Vec::new(alloc),
         is_torn: false,
+        saved: Vec::new(alloc),
         failures: Counter::new(),
-    };
-    let mut saved = Store {
-        alloc,
-        bytes: Vec::new(alloc),
     };
     let mut out = WriterSink::new(Halting::new(alloc, room));
     let mut err = WriterSink::new(Vec::new(alloc));
-    let status = command(alloc, words, &mut files, &mut saved, &mut out, &mut err);
+    let status = command(alloc, words, &mut files, &mut out, &mut err);
     Left {
         status,
         out,
         err,
-        saved,
+        saved: files.saved,
     }
 }
 
@@ -556,7 +546,7 @@ fn ends_so(alloc: Global, automaton: &[u8], row: &Row) -> bool {
     ran(alloc, automaton, row.words, usize::MAX).is(
         row.status,
         row.written.as_bytes(),
-        row.told.as_bytes(),
+        row.reported.as_bytes(),
     )
 }
 
@@ -574,7 +564,7 @@ fn the_usage_is_printed(rt: HostRuntime) {
         words: &["--help"],
         status: 0,
         written: usage(),
-        told: "",
+        reported: "",
     };
     expect(&rt, ends_so(rt.alloc(), b"", &row), row.shows);
 }
@@ -594,7 +584,7 @@ const LOAD_ROWS: &[LoadRow] = &[
             words: &["-n", "--load", "automaton", "log"],
             status: 0,
             written: "1:an error\n3:abab\n",
-            told: "",
+            reported: "",
         },
     },
     LoadRow {
@@ -623,7 +613,7 @@ const LOAD_ROWS: &[LoadRow] = &[
             ],
             status: 0,
             written: "ab\naba\nab\n",
-            told: "",
+            reported: "",
         },
     },
     LoadRow {
@@ -633,7 +623,7 @@ const LOAD_ROWS: &[LoadRow] = &[
             words: &["-o", "--load", "automaton", "log"],
             status: 2,
             written: "",
-            told: "daacgrep: automaton was saved with other options: -i, --first and --overlapping must be as there\n",
+            reported: "daacgrep: automaton was saved with other options: -i, --first and --overlapping must be as there\n",
         },
     },
     LoadRow {
@@ -643,7 +633,7 @@ const LOAD_ROWS: &[LoadRow] = &[
             words: &["--values", "-f", "rules", "--load", "automaton", "log"],
             status: 0,
             written: "bad\tword:an error\n:fine\nletters:abab\n",
-            told: "",
+            reported: "",
         },
     },
     LoadRow {
@@ -660,7 +650,7 @@ const LOAD_ROWS: &[LoadRow] = &[
             ],
             status: 2,
             written: "",
-            told: "daacgrep: --values wants -f beside --load\n",
+            reported: "daacgrep: --values wants -f beside --load\n",
         },
     },
     LoadRow {
@@ -670,7 +660,7 @@ const LOAD_ROWS: &[LoadRow] = &[
             words: &["-e", "fine", "--load", "automaton", "log"],
             status: 2,
             written: "",
-            told: "daacgrep: -e and -f do not go with --load, except for --values\n",
+            reported: "daacgrep: -e and -f do not go with --load, except for --values\n",
         },
     },
     LoadRow {
@@ -680,7 +670,7 @@ const LOAD_ROWS: &[LoadRow] = &[
             words: &["--load", "words", "log"],
             status: 2,
             written: "",
-            told: "daacgrep: cannot load words: InvalidAutomatonError: invalid serialized automaton\n",
+            reported: "daacgrep: cannot load words: InvalidAutomatonError: invalid serialized automaton\n",
         },
     },
     LoadRow {
@@ -690,7 +680,7 @@ const LOAD_ROWS: &[LoadRow] = &[
             words: &["--load", "lost", "log"],
             status: 2,
             written: "",
-            told: "daacgrep: cannot read lost\n",
+            reported: "daacgrep: cannot read lost\n",
         },
     },
     LoadRow {
@@ -700,7 +690,7 @@ const LOAD_ROWS: &[LoadRow] = &[
             words: &["--load", "automaton", "--save", "locked"],
             status: 2,
             written: "",
-            told: "daacgrep: cannot write locked\n",
+            reported: "daacgrep: cannot write locked\n",
         },
     },
     LoadRow {
@@ -710,17 +700,17 @@ const LOAD_ROWS: &[LoadRow] = &[
             words: &["-f", "words", "--save", "automaton", "log"],
             status: 2,
             written: "",
-            told: "daacgrep: --save searches no file\n",
+            reported: "daacgrep: --save searches no file\n",
         },
     },
     LoadRow {
         saving: &["-f", "words", "--save", "automaton"],
         row: Row {
-            shows: "no name behind --load",
+            shows: "no name after --load",
             words: &["log", "--load"],
             status: 2,
             written: "",
-            told: "daacgrep: --load has no argument\n",
+            reported: "daacgrep: --load has no argument\n",
         },
     },
 ];
@@ -728,7 +718,7 @@ const LOAD_ROWS: &[LoadRow] = &[
 // Whether an automaton is saved without a word, and the command then ends as the row says.
 fn loads_so(alloc: Global, row: &LoadRow) -> bool {
     let saving = ran(alloc, b"", row.saving, usize::MAX);
-    saving.is(0, b"", b"") && ends_so(alloc, &saving.saved.bytes, &row.row)
+    saving.is(0, b"", b"") && ends_so(alloc, &saving.saved, &row.row)
 }
 
 #[test]

@@ -17,13 +17,15 @@ returns-in_default g c = record {
   some = λ none. c.requires;
 }
 
-pub slice_bounds-behind_last-end : goal.slice_bounds-behind_last-end
-slice_bounds-behind_last-end g c =
-    let less = first_within (sought_of c.args.searcher.now) c.args.mark c.args.text.now c.in-Some.found _ (sym c.matches.ensures ∙ c.in-Some.ensures.steps) c.requires in
+pub slice_bounds-after_last-end : goal.slice_bounds-after_last-end
+slice_bounds-after_last-end g c =
+    let less = first_within (sought_of c.args.searcher.now) c.args.mark c.args.text.now c.in-Some.found _
+    (sym c.matches.ensures ∙ c.in-Some.ensures.steps) c.requires in
     sym (length-take-le c.in-Some.found.start c.args.text.now (omega (arith, less)))
 
 -- the line of the match, as it is cut out
-line_cut : (s : Sought) (start len : ℕ) (text : List ℕ) (has : Bool) → has ≡ occurs s (slice_range text start (start + len)) → has ≡ occurs s (take len (drop start text))
+line_cut : (s : Sought) (start len : ℕ) (text : List ℕ) (has : Bool) → has ≡ occurs s (slice_range text start (start + len)) → has
+    ≡ occurs s (take len (drop start text))
 line_cut s start len text has is = is ∙ ap (λ n. occurs s (take n (drop start text))) (omega arith)
 
 pub returns-then-is_match : goal.returns-then-is_match
@@ -31,16 +33,19 @@ returns-then-is_match g c =
     let s = sought_of c.args.searcher.now in
     let text = c.args.text.now in
     let m = c.in-Some.found in
-    let start = c.behind_last-start.result in
+    let start = c.after_last-start.result in
     let line = c.first_line-len in
     let cut = take_rest text start in
     let found : (m.end ≤ start + line.result.0) ⊎ (occurs s (take line.result.0 (drop start text)) ≡ true) = elim c.if-found-start.branch [
       | then-found-start w ↦ inl w.if-found-start.true
-      | else-found-start w ↦ inr (sym (line_cut s start line.result.0 text w.is_match.result w.is_match.ensures) ∙ sym w.value-is ∙ c.if-is_match.true)
+      | else-found-start w ↦ inr (sym (line_cut s start line.result.0 text w.is_match.result w.is_match.ensures) ∙ sym w.value-is
+          ∙ c.if-is_match.true)
     ] in
-    front_found s c.args.mark text m _ (sym c.matches.ensures ∙ c.in-Some.ensures.steps) start line.result.0 line.result.1 c.behind_last-start.ensures.within c.behind_last-start.ensures.behind c.requires
+    front_found s c.args.mark text m _ (sym c.matches.ensures ∙ c.in-Some.ensures.steps) start line.result.0 line.result.1
+    c.after_last-start.ensures.within c.after_last-start.ensures.after c.requires
     (line.ensures.len ∙ ap (first_len c.args.mark) cut)
-    (subst (λ t. ((line.result.0 < length t) × (line.result.1 ≡ line.result.0 + 1)) ⊎ ((length t ≤ line.result.0) × (line.result.1 ≡ line.result.0))) cut line.ensures.end)
+    (subst (λ t. ((line.result.0 < length t) × (line.result.1 ≡ line.result.0 + 1))
+    ⊎ ((length t ≤ line.result.0) × (line.result.1 ≡ line.result.0))) cut line.ensures.end)
     found
 
 pub returns-else-is_match : goal.returns-else-is_match
@@ -48,14 +53,17 @@ returns-else-is_match g c =
     let s = sought_of c.args.searcher.now in
     let text = c.args.text.now in
     let m = c.in-Some.found in
-    let start = c.behind_last-start.result in
+    let start = c.after_last-start.result in
     let line = c.first_line-len in
     let cut = take_rest text start in
     let none : occurs s (take line.result.0 (drop start text)) ≡ false = elim c.if-found-start.branch [
       | then-found-start w ↦ absurd (grind (arith, nat_tests, sym w.value-is ∙ c.if-is_match.false, w.if-found-start.true))
-      | else-found-start w ↦ sym (line_cut s start line.result.0 text w.is_match.result w.is_match.ensures) ∙ sym w.value-is ∙ c.if-is_match.false
+      | else-found-start w ↦ sym (line_cut s start line.result.0 text w.is_match.result w.is_match.ensures) ∙ sym w.value-is
+          ∙ c.if-is_match.false
     ] in
-    front_passed s c.args.mark text m _ (sym c.matches.ensures ∙ c.in-Some.ensures.steps) start line.result.0 line.result.1 c.behind_last-start.ensures.within c.behind_last-start.ensures.behind c.requires
+    front_passed s c.args.mark text m _ (sym c.matches.ensures ∙ c.in-Some.ensures.steps) start line.result.0 line.result.1
+    c.after_last-start.ensures.within c.after_last-start.ensures.after c.requires
     (line.ensures.len ∙ ap (first_len c.args.mark) cut)
-    (subst (λ t. ((line.result.0 < length t) × (line.result.1 ≡ line.result.0 + 1)) ⊎ ((length t ≤ line.result.0) × (line.result.1 ≡ line.result.0))) cut line.ensures.end)
+    (subst (λ t. ((line.result.0 < length t) × (line.result.1 ≡ line.result.0 + 1))
+    ⊎ ((length t ≤ line.result.0) × (line.result.1 ≡ line.result.0))) cut line.ensures.end)
     none

@@ -6,19 +6,24 @@ use Rattle.daacgrep_command.proofs.Asking.{name_at_end, names_more, read_more, r
 use Rattle.daacgrep_command.proofs.patterns.add_files.Goals as goal
 
 pub loop-name-init : goal.loop-name-init
-loop-name-init g c = record { given = refl; read = read_none (g.I.Inputs.given c.args.files.now) c.args.text.now.items }
+loop-name-init g c = record {
+  same = refl;
+  read = read_none (g.F.FileSystem.sees c.args.files.now).given c.args.text.now.items;
+}
 
 pub loop-name-preserved : goal.loop-name-preserved
 unfolding name_at_end
 loop-name-preserved g c =
     let l = c.loop-name in
     let names = c.args.names.now in
-    let told = rw l.invariant.given at c.in-Some.ensures.told in
+    let given = (g.F.FileSystem.sees c.args.files.now).given in
+    let has = rw l.invariant.same at c.in-Some.ensures.has in
+    let name = (get_or names l.name-index name_at_end).now in
+    let added = c.in_ok-add_closed.ensures ∙ ap (λ t. l.text.items ++ closed t) c.deref.ensures.value in
     record {
-      given = c.read.ensures.same ∙ l.invariant.given;
+      same = c.in-Some.ensures.counted ∙ l.invariant.same;
       read = rw (names_more names l.name-index name_at_end c.loop-name-test.true)
-          (read_more (g.I.Inputs.given c.args.files.now) _ (get_or names l.name-index name_at_end).now c.in-Some.bytes.items c.args.text.now.items l.text.items _ l.invariant.read told
-          (c.in_ok-add_closed.ensures ∙ ap (λ t. l.text.items ++ closed t) c.deref.ensures.value));
+          (read_more given _ name c.in-Some.bytes.items c.args.text.now.items l.text.items _ l.invariant.read has added);
     }
 
 pub returns-clause-ok : goal.returns-clause-ok

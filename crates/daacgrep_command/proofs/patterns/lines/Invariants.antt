@@ -1,4 +1,4 @@
--- The lines so far were taken, and behind these come those that are left.
+-- The lines so far were taken, and after these come those that are left.
 use Rattle.std.proofs.Common.{◌≡◌, ◌++◌, map}
 use Rattle.daachorse_model.specs.Program.{pattern_lines}
 use Rattle.daacgrep_command.proofs.patterns.lines.Given as goal

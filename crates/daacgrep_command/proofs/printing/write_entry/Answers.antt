@@ -1,4 +1,4 @@
--- The text comes behind its labels.
+-- The text comes after its labels.
 use Rattle.std.proofs.Common.{[], ◌∷◌, ◌++◌, sym}
 use Rattle.std.proofs.lemmas.Result.{err_from_is_err_and}
 use Rattle.daacgrep_command.specs.Fields.{name_field, number_field}
@@ -13,7 +13,8 @@ returns-in_err-write_name g c =
     let values = name_field l.values c.args.value.now in
     let places = number_field l.places c.args.place in
     let numbers = number_field l.numbers c.args.number in
-    rw (p.1, sym c.as_bytes.ensures.value) (then_none _ _ _ _ (name_field l.names c.as_bytes.result.now) (numbers ++ (places ++ (values ++ text))) _ c.in_err-write_name.ensures)
+    rw (p.1, sym c.as_bytes.ensures.value) (then_none _ _ (name_field l.names c.as_bytes.result.now)
+    (numbers ++ (places ++ (values ++ text))) _ c.in_err-write_name.ensures)
 
 pub returns-in_err-write_field : goal.returns-in_err-write_field
 returns-in_err-write_field g c =
@@ -23,8 +24,9 @@ returns-in_err-write_field g c =
     let values = name_field l.values c.args.value.now in
     let places = number_field l.places c.args.place in
     let numbers = number_field l.numbers c.args.number in
-    rw (p.1, sym c.as_bytes.ensures.value) (then_more _ _ _ _ _ _ (name_field l.names c.as_bytes.result.now) (numbers ++ (places ++ (values ++ text))) _ _ c.in_ok-write_name.ensures
-    (then_none _ _ _ _ numbers (places ++ (values ++ text)) _ c.in_err-write_field.ensures))
+    rw (p.1, sym c.as_bytes.ensures.value) (then_more _ _ _ (name_field l.names c.as_bytes.result.now)
+    (numbers ++ (places ++ (values ++ text))) _ _ c.in_ok-write_name.ensures
+    (then_none _ _ numbers (places ++ (values ++ text)) _ c.in_err-write_field.ensures))
 
 pub returns-in_err-write_field-2 : goal.returns-in_err-write_field-2
 returns-in_err-write_field-2 g c =
@@ -34,9 +36,10 @@ returns-in_err-write_field-2 g c =
     let values = name_field l.values c.args.value.now in
     let places = number_field l.places c.args.place in
     let numbers = number_field l.numbers c.args.number in
-    rw (p.1, sym c.as_bytes.ensures.value) (then_more _ _ _ _ _ _ (name_field l.names c.as_bytes.result.now) (numbers ++ (places ++ (values ++ text))) _ _ c.in_ok-write_name.ensures
-    (then_more _ _ _ _ _ _ numbers (places ++ (values ++ text)) _ _ c.in_ok-write_field.ensures
-    (then_none _ _ _ _ places (values ++ text) _ c.in_err-write_field-2.ensures)))
+    rw (p.1, sym c.as_bytes.ensures.value) (then_more _ _ _ (name_field l.names c.as_bytes.result.now)
+    (numbers ++ (places ++ (values ++ text))) _ _ c.in_ok-write_name.ensures
+    (then_more _ _ _ numbers (places ++ (values ++ text)) _ _ c.in_ok-write_field.ensures
+    (then_none _ _ places (values ++ text) _ c.in_err-write_field-2.ensures)))
 
 pub returns-in_err-write_name-2 : goal.returns-in_err-write_name-2
 returns-in_err-write_name-2 g c =
@@ -46,10 +49,11 @@ returns-in_err-write_name-2 g c =
     let values = name_field l.values c.args.value.now in
     let places = number_field l.places c.args.place in
     let numbers = number_field l.numbers c.args.number in
-    rw (p.1, sym c.as_bytes.ensures.value) (then_more _ _ _ _ _ _ (name_field l.names c.as_bytes.result.now) (numbers ++ (places ++ (values ++ text))) _ _ c.in_ok-write_name.ensures
-    (then_more _ _ _ _ _ _ numbers (places ++ (values ++ text)) _ _ c.in_ok-write_field.ensures
-    (then_more _ _ _ _ _ _ places (values ++ text) _ _ c.in_ok-write_field-2.ensures
-    (then_none _ _ _ _ values text _ c.in_err-write_name-2.ensures))))
+    rw (p.1, sym c.as_bytes.ensures.value) (then_more _ _ _ (name_field l.names c.as_bytes.result.now)
+    (numbers ++ (places ++ (values ++ text))) _ _ c.in_ok-write_name.ensures
+    (then_more _ _ _ numbers (places ++ (values ++ text)) _ _ c.in_ok-write_field.ensures
+    (then_more _ _ _ places (values ++ text) _ _ c.in_ok-write_field-2.ensures
+    (then_none _ _ values text _ c.in_err-write_name-2.ensures))))
 
 pub returns : goal.returns
 returns g c =
@@ -58,7 +62,8 @@ returns g c =
     let values = name_field l.values c.args.value.now in
     let places = number_field l.places c.args.place in
     let numbers = number_field l.numbers c.args.number in
-    rw (sym c.as_bytes.ensures.value) (then_more _ _ _ _ _ _ (name_field l.names c.as_bytes.result.now) (numbers ++ (places ++ (values ++ text))) _ _ c.in_ok-write_name.ensures
-    (then_more _ _ _ _ _ _ numbers (places ++ (values ++ text)) _ _ c.in_ok-write_field.ensures
-    (then_more _ _ _ _ _ _ places (values ++ text) _ _ c.in_ok-write_field-2.ensures
-    (then_more _ _ _ _ _ _ values text _ _ c.in_ok-write_name-2.ensures c.write_marked.ensures))))
+    rw (sym c.as_bytes.ensures.value) (then_more _ _ _ (name_field l.names c.as_bytes.result.now) (numbers ++ (places ++ (values ++ text)))
+    _ _ c.in_ok-write_name.ensures
+    (then_more _ _ _ numbers (places ++ (values ++ text)) _ _ c.in_ok-write_field.ensures
+    (then_more _ _ _ places (values ++ text) _ _ c.in_ok-write_field-2.ensures
+    (then_more _ _ _ values text _ _ c.in_ok-write_name-2.ensures c.write_marked.ensures))))

@@ -20,11 +20,11 @@ returns-clause-steps g c =
     let a = c.in-Some.next in
     let some = subst (IsNext sought s.mark s.inverts s.rest.now) c.in-Some.is c.look_ahead.ensures in
     let rest = drop a.skip s.rest.now in
-    let number = c.number_behind.result in
+    let number = c.number_after.result in
     let line : List ℕ → TextLine = λ bytes. record { number = number; start = s.start + a.skip; bytes = bytes } in
     let later : List ℕ → List TextLine = left sought s.mark s.inverts s.has_numbers number (s.start + (a.skip + a.end)) in
     sym c.self.view_is
-    ∙ next_left sought s.mark s.inverts s.has_numbers s.given s.start number s.rest.now a some c.number_behind.ensures
+    ∙ next_left sought s.mark s.inverts s.has_numbers s.given s.start number s.rest.now a some c.number_after.ensures
     ∙ ap (λ t. line (take a.len rest) ∷ later t) (sym (take_rest rest a.end))
     ∙ ap (λ t. line (take a.len t) ∷ later (take (length t - a.end) (drop a.end t))) (sym (take_rest s.rest.now a.skip))
 
@@ -38,7 +38,8 @@ overflow_add-self g c =
     let s = c.self.inside in
     let a = c.in-Some.next in
     let some = subst (IsNext (sought_of s.searcher.now) s.mark s.inverts s.rest.now) c.in-Some.is c.look_ahead.ensures in
-    let fits = next_fits (sought_of s.searcher.now) s.mark s.inverts s.has_numbers s.given s.start c.number_behind.result s.rest.now a some c.number_behind.ensures c.self.invariant.0 in
+    let fits = next_fits (sought_of s.searcher.now) s.mark s.inverts s.has_numbers s.given s.start c.number_after.result s.rest.now a some
+    c.number_after.ensures c.self.invariant.0 in
     let sized = ap length (take_rest s.rest.now a.skip) in
     omega (arith, fits.0, c.self.invariant.1)
 
@@ -47,7 +48,8 @@ overflow_add-self-2 g c =
     let s = c.self.inside in
     let a = c.in-Some.next in
     let some = subst (IsNext (sought_of s.searcher.now) s.mark s.inverts s.rest.now) c.in-Some.is c.look_ahead.ensures in
-    let fits = next_fits (sought_of s.searcher.now) s.mark s.inverts s.has_numbers s.given s.start c.number_behind.result s.rest.now a some c.number_behind.ensures c.self.invariant.0 in
+    let fits = next_fits (sought_of s.searcher.now) s.mark s.inverts s.has_numbers s.given s.start c.number_after.result s.rest.now a some
+    c.number_after.ensures c.self.invariant.0 in
     let sized = ap length (take_rest s.rest.now a.skip) in
     omega (arith, fits.0, c.self.invariant.1)
 
@@ -56,7 +58,8 @@ slice_bounds-self-count g c =
     let s = c.self.inside in
     let a = c.in-Some.next in
     let some = subst (IsNext (sought_of s.searcher.now) s.mark s.inverts s.rest.now) c.in-Some.is c.look_ahead.ensures in
-    let fits = next_fits (sought_of s.searcher.now) s.mark s.inverts s.has_numbers s.given s.start c.number_behind.result s.rest.now a some c.number_behind.ensures c.self.invariant.0 in
+    let fits = next_fits (sought_of s.searcher.now) s.mark s.inverts s.has_numbers s.given s.start c.number_after.result s.rest.now a some
+    c.number_after.ensures c.self.invariant.0 in
     let sized = ap length (take_rest s.rest.now a.skip) in
     omega (arith, fits.1, sized)
 
@@ -65,7 +68,8 @@ slice_bounds-self-start g c =
     let s = c.self.inside in
     let a = c.in-Some.next in
     let some = subst (IsNext (sought_of s.searcher.now) s.mark s.inverts s.rest.now) c.in-Some.is c.look_ahead.ensures in
-    let fits = next_fits (sought_of s.searcher.now) s.mark s.inverts s.has_numbers s.given s.start c.number_behind.result s.rest.now a some c.number_behind.ensures c.self.invariant.0 in
+    let fits = next_fits (sought_of s.searcher.now) s.mark s.inverts s.has_numbers s.given s.start c.number_after.result s.rest.now a some
+    c.number_after.ensures c.self.invariant.0 in
     let sized = ap length (take_rest s.rest.now a.skip) in
     omega (arith, fits.1, sized)
 
@@ -74,9 +78,14 @@ invariant_of-self-2 g c =
     let s = c.self.inside in
     let a = c.in-Some.next in
     let some = subst (IsNext (sought_of s.searcher.now) s.mark s.inverts s.rest.now) c.in-Some.is c.look_ahead.ensures in
-    let fits = next_fits (sought_of s.searcher.now) s.mark s.inverts s.has_numbers s.given s.start c.number_behind.result s.rest.now a some c.number_behind.ensures c.self.invariant.0 in
+    let fits = next_fits (sought_of s.searcher.now) s.mark s.inverts s.has_numbers s.given s.start c.number_after.result s.rest.now a some
+    c.number_after.ensures c.self.invariant.0 in
     let sized = ap length (take_rest s.rest.now a.skip) in
     let rest = drop a.skip s.rest.now in
-    let behind : take (length (take (length s.rest.now - a.skip) rest) - a.end) (drop a.end (take (length s.rest.now - a.skip) rest)) ≡ drop a.end rest =
-    take_rest (take (length s.rest.now - a.skip) rest) a.end ∙ ap (drop a.end) (take_rest s.rest.now a.skip) in
-    (fits.2, omega (arith, fits.0, c.self.invariant.1, ap length behind, length-drop a.end rest, length-drop a.skip s.rest.now), subst (AreClear (sought_of s.searcher.now) s.mark a.clear) (sym behind) some.clear)
+    let behind : take (length (take (length s.rest.now - a.skip) rest) - a.end) (drop a.end (take (length s.rest.now - a.skip) rest))
+    ≡ drop a.end rest =
+    take_rest (take (length s.rest.now - a.skip) rest) a.end ∙ ap (drop a.end) (take_rest s.rest.now a.skip) in (
+      fits.2,
+      omega (arith, fits.0, c.self.invariant.1, ap length behind, length-drop a.end rest, length-drop a.skip s.rest.now),
+      subst (AreClear (sought_of s.searcher.now) s.mark a.clear) (sym behind) some.clear,
+    )

@@ -13,25 +13,18 @@ PAGE = TOP / "CALLS.md"
 # The path under which users find what these files have.
 FILES = {
     "daachorse::bytewise": [
-        "daachorse_bytewise/src/bytewise.rt", "daachorse_bytewise/src/bytewise/builder.rt",
-        "daachorse_bytewise/src/bytewise/searches.rt",
-        "daachorse_bytewise/src/bytewise/by_kind.rt", "daachorse_bytewise/src/bytewise/lookup.rt",
-        "daachorse_bytewise/src/bytewise/leftmost_streams.rt",
-        "daachorse_bytewise/src/bytewise/reader.rt",
-        "daachorse_bytewise/src/bytewise/replacing.rt",
-        "daachorse_bytewise/src/bytewise/streaming.rt",
-        "daachorse_bytewise/src/bytewise/written.rt",
-        "daachorse_bytewise/src/bytewise/accelerated.rt"],
+        "daachorse/src/bytewise.rt", "daachorse/src/bytewise/builder.rt",
+        "daachorse/src/bytewise/lookup.rt", "daachorse/src/bytewise/written.rt",
+        "daachorse/src/bytewise/accelerated.rt"],
     "daachorse::charwise": [
-        "daachorse_charwise/src/charwise.rt", "daachorse_charwise/src/charwise/builder.rt",
-        "daachorse_charwise/src/charwise/searches.rt",
-        "daachorse_charwise/src/charwise/by_kind.rt", "daachorse_charwise/src/charwise/lookup.rt",
-        "daachorse_charwise/src/charwise/leftmost_streams.rt",
-        "daachorse_charwise/src/charwise/reader.rt",
-        "daachorse_charwise/src/charwise/replacing.rt",
-        "daachorse_charwise/src/charwise/streaming.rt",
-        "daachorse_charwise/src/charwise/written.rt",
-        "daachorse_charwise/src/charwise/accelerated.rt"],
+        "daachorse/src/charwise.rt", "daachorse/src/charwise/builder.rt",
+        "daachorse/src/charwise/lookup.rt", "daachorse/src/charwise/written.rt",
+        "daachorse/src/charwise/accelerated.rt"],
+    "daachorse::automaton": [
+        "daachorse/src/automaton.rt", "daachorse/src/automaton/searches.rt",
+        "daachorse/src/automaton/by_kind.rt", "daachorse/src/automaton/streams.rt",
+        "daachorse/src/automaton/readers.rt", "daachorse/src/automaton/replacing.rt",
+        "daachorse/src/automaton/rewriting.rt", "daachorse/src/automaton/gathers.rt"],
     "daachorse::bytewise::iter, daachorse::charwise::iter": [
         "daachorse_search/src/stepper.rt",
         "daachorse_search/src/find_stepper.rt", "daachorse_search/src/overlapping_stepper.rt",

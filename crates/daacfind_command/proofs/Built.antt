@@ -4,9 +4,9 @@ use Rattle.daachorse_model.specs.declared.MatchKind.{MatchKind}
 use Rattle.daachorse_model.specs.Dictionary.{dictionary}
 use Rattle.daachorse_model.specs.Folding.{as_read}
 use Rattle.daachorse_model.specs.Program.{with_numbers, pattern_lines, match_text}
-use Rattle.daachorse_bytewise.specs.Automata.{Automaton, dictionary_of}
-use Rattle.daachorse_bytewise.specs.Building.{IsBuiltOf}
-use Rattle.daachorse_bytewise.specs.Patterns.{AreIndexed}
+use Rattle.daachorse.specs.bytewise.Automata.{Automaton, dictionary_of}
+use Rattle.daachorse.specs.bytewise.Building.{IsBuiltOf}
+use Rattle.daachorse.specs.Patterns.{AreIndexed}
 use Rattle.daacfind_command.specs.declared.mode.Mode.{Mode}
 use Rattle.daacfind_command.specs.Modes.{found_by, kind_of_mode, text_of_mode}
 use Rattle.daacfind_command.specs.Runs.{value_gives}

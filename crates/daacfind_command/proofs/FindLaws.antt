@@ -2,9 +2,9 @@
 use Rattle.std.proofs.Common.{◌≡◌, ◌+◌, ℕ, inl, inr, refl, List, Option, Some}
 use Rattle.std.specs.Io.KnownBytes.{Keeps}
 use Rattle.daachorse_model.specs.Program.{pattern_lines}
-use Rattle.daachorse_bytewise.specs.Building.{IsBuildRefusal}
-use Rattle.daachorse_bytewise.specs.DaachorseError.{DaachorseError}
-use Rattle.daachorse_bytewise.specs.Replaced.{AppendsBeginning}
+use Rattle.daachorse.specs.bytewise.Building.{IsBuildRefusal}
+use Rattle.daachorse.specs.DaachorseError.{DaachorseError}
+use Rattle.daachorse.specs.Replaced.{AppendsBeginning}
 use Rattle.daacfind_command.specs.declared.mode.Mode.{Mode}
 use Rattle.daacfind_command.specs.declared.run.RunError.{RunError}
 use Rattle.daacfind_command.specs.declared.run.RunError.TheVariants.{Build, Write}

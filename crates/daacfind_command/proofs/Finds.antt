@@ -4,9 +4,9 @@ use Rattle.std.proofs.lemmas.Result.{on_ok_weaker, on_err_weaker}
 use Rattle.std.specs.Prelude.{Result, OnOk, OnErr}
 use Rattle.std.specs.Io.KnownBytes.{Appends}
 use Rattle.std.specs.Iterator.{AlwaysYields}
-use Rattle.daachorse_bytewise.proofs.MatchesLaws.{YieldsList-from_progress}
-use Rattle.daachorse_bytewise.specs.Matches.{GivesFirst, Progress}
-use Rattle.daachorse_bytewise.specs.Replaced.{AppendsBeginning}
+use Rattle.daachorse.proofs.MatchesLaws.{YieldsList-from_progress}
+use Rattle.daachorse.specs.Matches.{GivesFirst, Progress}
+use Rattle.daachorse.specs.Replaced.{AppendsBeginning}
 use Rattle.daachorse_model.specs.declared.Match.{Match}
 use Rattle.daachorse_model.specs.Dictionary.{Dictionary}
 use Rattle.daachorse_model.specs.Program.{match_text}

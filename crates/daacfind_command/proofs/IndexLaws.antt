@@ -6,11 +6,11 @@ use Rattle.std.specs.Int.{w32}
 use Rattle.std.specs.Io.KnownBytes.{Keeps}
 use Rattle.std.proofs.lemmas.Result.{err_from_is_err_and}
 use Rattle.daachorse_model.specs.Program.{pattern_lines}
-use Rattle.daachorse_bytewise.specs.Building.{IsBuildRefusal}
-use Rattle.daachorse_bytewise.specs.Forms.{IsReadRefusal, take_number}
-use Rattle.daachorse_bytewise.specs.ReadForms.{GivesNoAutomaton}
-use Rattle.daachorse_bytewise.specs.Refusals.{IsOutOfMemory}
-use Rattle.daachorse_bytewise.specs.Replaced.{AppendsBeginning}
+use Rattle.daachorse.specs.bytewise.Building.{IsBuildRefusal}
+use Rattle.daachorse.specs.Forms.{IsReadRefusal, take_number}
+use Rattle.daachorse.specs.bytewise.ReadForms.{GivesNoAutomaton}
+use Rattle.daachorse.specs.Refusals.{IsOutOfMemory}
+use Rattle.daachorse.specs.Replaced.{AppendsBeginning}
 use Rattle.daacfind_command.specs.declared.index.command.Request.{Request}
 use Rattle.daacfind_command.specs.declared.index.command.Request.TheVariants.{Form, Matches}
 use Rattle.daacfind_command.specs.declared.index.written.IndexError.{IndexError}

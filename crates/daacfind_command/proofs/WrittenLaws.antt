@@ -3,19 +3,19 @@
 use Rattle.std.proofs.Common.{◌≡◌, ◌⊎◌, ◌^◌, ◌<◌, ℕ, false, List, ◌++◌, ap, subst, ◌∙◌, [], Option, append-nil, sym, refl}
 use Rattle.std.specs.Int.{w32}
 use Rattle.std.specs.Io.KnownBytes.{Appends}
-use Rattle.daachorse_bytewise.specs.DaachorseError.{DaachorseError}
-use Rattle.daachorse_bytewise.specs.Refusals.{IsOutOfMemory}
-use Rattle.daachorse_bytewise.specs.Replaced.{AppendsBeginning}
+use Rattle.daachorse.specs.DaachorseError.{DaachorseError}
+use Rattle.daachorse.specs.Refusals.{IsOutOfMemory}
+use Rattle.daachorse.specs.Replaced.{AppendsBeginning}
 use Rattle.daachorse_model.specs.declared.MatchKind.{MatchKind}
 use Rattle.daachorse_model.specs.Folding.{as_read}
 use Rattle.daachorse_model.specs.Program.{match_text, pattern_lines}
-use Rattle.daachorse_bytewise.specs.Forms.{number_form, take_number}
-use Rattle.daachorse_bytewise.specs.Laws.{number_law}
-use Rattle.daachorse_bytewise.specs.Automata.{Automaton as Searches, dictionary_of, kind_of}
-use Rattle.daachorse_bytewise.specs.Building.{IsBuiltOf}
-use Rattle.daachorse_bytewise.specs.ReadForms.{GivesAutomaton, GivesNoAutomaton}
-use Rattle.daachorse_bytewise.specs.WrittenForms.{IsAutomaton, without_depths, written_form}
-use Rattle.daachorse_bytewise.proofs.WrittenLaws.{gives_written, refuses_written}
+use Rattle.daachorse.specs.Forms.{number_form, take_number}
+use Rattle.daachorse.specs.Laws.{number_law}
+use Rattle.daachorse.specs.bytewise.Automata.{Automaton as Searches, dictionary_of, kind_of}
+use Rattle.daachorse.specs.bytewise.Building.{IsBuiltOf}
+use Rattle.daachorse.specs.bytewise.ReadForms.{GivesAutomaton, GivesNoAutomaton}
+use Rattle.daachorse.specs.bytewise.WrittenForms.{IsAutomaton, without_depths, written_form}
+use Rattle.daachorse.proofs.WrittenLaws.{gives_written, refuses_written}
 use Rattle.daacfind_command.specs.declared.mode.Mode.{Mode}
 use Rattle.daacfind_command.specs.Modes.{found_by, kind_of_mode, text_of_mode}
 use Rattle.daacfind_command.specs.Runs.{value_gives}

@@ -1,6 +1,6 @@
 -- What `daacfind` is asked for, and how it ends.
 use Rattle.std.specs.Prelude.{◌≡◌, ◌⊎◌, ℕ, List, [], ◌∷◌, Option, Some}
-use Rattle.daachorse_bytewise.specs.DaachorseError.{DaachorseError}
+use Rattle.daachorse.specs.DaachorseError.{DaachorseError}
 use Rattle.daacfind_command.specs.declared.mode.Mode.{Mode}
 use Rattle.daacfind_command.specs.declared.run.RunError.{RunError}
 use Rattle.daacfind_command.specs.declared.run.RunError.TheVariants.{Build, Write}

@@ -3,10 +3,10 @@ use Rattle.std.specs.Prelude.{◌≡◌, ◌⊎◌, ℕ, List, [], ◌∷◌, Op
 use Rattle.std.specs.Borrow.{Bor}
 use Rattle.std.specs.Int.{w32}
 use Rattle.std.specs.Result.{IsErrAnd}
-use Rattle.daachorse_bytewise.specs.DaachorseError.{DaachorseError}
-use Rattle.daachorse_bytewise.specs.Forms.{IsReadRefusal, take_number}
-use Rattle.daachorse_bytewise.specs.ReadForms.{GivesNoAutomaton}
-use Rattle.daachorse_bytewise.specs.Refusals.{IsOutOfMemory}
+use Rattle.daachorse.specs.DaachorseError.{DaachorseError}
+use Rattle.daachorse.specs.Forms.{IsReadRefusal, take_number}
+use Rattle.daachorse.specs.bytewise.ReadForms.{GivesNoAutomaton}
+use Rattle.daachorse.specs.Refusals.{IsOutOfMemory}
 use Rattle.daacfind_command.specs.declared.index.command.Request.{Request}
 use Rattle.daacfind_command.specs.declared.index.command.Request.TheVariants.{Form, Matches}
 use Rattle.daacfind_command.specs.declared.index.written.IndexError.{IndexError}

@@ -3,8 +3,8 @@ use Rattle.std.specs.Prelude.{⊤, ℕ, ◌≡◌, ◌+◌, ◌<◌, ◌^◌, Li
 use Rattle.std.specs.Io.KnownBytes.{Appends}
 use Rattle.std.specs.Result.{OkIff}
 use Rattle.std.specs.declared.num.TryFromIntError.{TryFromIntError}
-use Rattle.daachorse_bytewise.specs.DaachorseError.{DaachorseError}
-use Rattle.daachorse_bytewise.specs.Replaced.{AppendsBeginning}
+use Rattle.daachorse.specs.DaachorseError.{DaachorseError}
+use Rattle.daachorse.specs.Replaced.{AppendsBeginning}
 use Rattle.daacfind_command.specs.declared.run.RunError.{RunError}
 use Rattle.daacfind_command.specs.declared.run.RunError.TheVariants.{Build, Write}
 

@@ -1,15 +1,15 @@
 -- What is written of an automaton for later runs, and what a run finds by one that was written.
 use Rattle.std.specs.Prelude.{◌≡◌, ◌≢◌, ◌<◌, ◌^◌, ◌++◌, ⊤, ℕ, List, false}
 use Rattle.std.specs.Int.{w32}
-use Rattle.daachorse_bytewise.specs.DaachorseError.{DaachorseError}
+use Rattle.daachorse.specs.DaachorseError.{DaachorseError}
 use Rattle.daachorse_model.specs.declared.MatchKind.{MatchKind}
 use Rattle.daachorse_model.specs.Folding.{as_read}
 use Rattle.daachorse_model.specs.Program.{match_text, pattern_lines}
-use Rattle.daachorse_bytewise.specs.Forms.{number_form, take_number}
-use Rattle.daachorse_bytewise.specs.Automata.{Automaton as Searches, dictionary_of, kind_of}
-use Rattle.daachorse_bytewise.specs.Building.{IsBuiltOf}
-use Rattle.daachorse_bytewise.specs.ReadForms.{GivesAutomaton}
-use Rattle.daachorse_bytewise.specs.WrittenForms.{IsAutomaton, written_form}
+use Rattle.daachorse.specs.Forms.{number_form, take_number}
+use Rattle.daachorse.specs.bytewise.Automata.{Automaton as Searches, dictionary_of, kind_of}
+use Rattle.daachorse.specs.bytewise.Building.{IsBuiltOf}
+use Rattle.daachorse.specs.bytewise.ReadForms.{GivesAutomaton}
+use Rattle.daachorse.specs.bytewise.WrittenForms.{IsAutomaton, written_form}
 use Rattle.daacfind_command.specs.declared.mode.Mode.{Mode}
 use Rattle.daacfind_command.specs.declared.index.written.IndexError.{IndexError}
 use Rattle.daacfind_command.specs.declared.index.written.IndexError.TheVariants.{Refused, Kind, Write}

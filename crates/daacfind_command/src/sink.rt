@@ -2,7 +2,7 @@
 
 ghost use Rattle.std.specs.Prelude.{◌≡◌, ℕ, ◌+◌, ◌≤◌, List, Option, length, IfOk, OnOk, OnErr};
 ghost use Rattle.std.specs.Io.KnownBytes.{Appends, Keeps, WriteAppends};
-ghost use Rattle.daachorse_bytewise.specs.Replaced.{AppendsBeginning};
+ghost use Rattle.daachorse.specs.Replaced.{AppendsBeginning};
 ghost use Rattle.daacfind_command.specs.Failures.{failures_after_write, failures_after_flush};
 
 use daachorse::counter::Counter;

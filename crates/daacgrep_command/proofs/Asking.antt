@@ -13,10 +13,10 @@ use Rattle.std.specs.Borrow.{Bor}
 use Rattle.std.specs.Io.KnownBytes.{Appends, Keeps}
 use Rattle.daachorse_model.specs.Dictionary.{Dictionary, dictionary}
 use Rattle.daachorse_model.specs.Folding.{texts_as_read}
-use Rattle.daachorse_bytewise.specs.Automata.{Automaton, dictionary_of}
-use Rattle.daachorse_bytewise.specs.Forms.{number_form}
-use Rattle.daachorse_bytewise.specs.WrittenForms.{IsAutomaton, written_form}
-use Rattle.daachorse_bytewise.specs.Replaced.{AppendsBeginning}
+use Rattle.daachorse.specs.bytewise.Automata.{Automaton, dictionary_of}
+use Rattle.daachorse.specs.Forms.{number_form}
+use Rattle.daachorse.specs.bytewise.WrittenForms.{IsAutomaton, written_form}
+use Rattle.daachorse.specs.Replaced.{AppendsBeginning}
 use Rattle.daacfind_command.proofs.Built.{numbered_of}
 use Rattle.daacfind_command.specs.Commands.{Tells}
 use Rattle.daacgrep_command.specs.declared.error.CommandError.{CommandError}

@@ -3,8 +3,8 @@ use Rattle.std.proofs.Common.{◌≡◌, ℕ, ◌+◌, ◌==◌, Bool, true, fal
 use Rattle.std.proofs.Common.{sym, subst, ◌∙◌, append_assoc, append-nil}
 use Rattle.std.specs.Io.KnownBytes.{Appends, Keeps}
 use Rattle.std.proofs.KnownBytes.{Appends-kept, Appends-nil, Appends-trans}
-use Rattle.daachorse_bytewise.specs.Replaced.{AppendsBeginning}
-use Rattle.daachorse_bytewise.proofs.Sending.{AppendsBeginning-behind, AppendsBeginning-more}
+use Rattle.daachorse.specs.Replaced.{AppendsBeginning}
+use Rattle.daachorse.proofs.Sending.{AppendsBeginning-behind, AppendsBeginning-more}
 use Rattle.daacgrep_command.specs.declared.printing.Labels.{Labels}
 use Rattle.daacgrep_command.specs.Fields.{entry, name_field, number_field}
 use Rattle.daacgrep_command.specs.Sending.{IsWritten, Sent}

@@ -11,11 +11,11 @@ use Rattle.daachorse_model.specs.Dictionary.{Dictionary, dictionary}
 use Rattle.daachorse_model.specs.Folding.{texts_as_read}
 use Rattle.daachorse_model.specs.Program.{pattern_lines, with_numbers}
 use Rattle.daachorse_model.specs.Units.{same_text}
-use Rattle.daachorse_bytewise.specs.Automata.{Automaton, dictionary_of, kind_of}
-use Rattle.daachorse_bytewise.specs.Building.{IsBuiltOf}
-use Rattle.daachorse_bytewise.specs.Forms.{number_form, take_number}
-use Rattle.daachorse_bytewise.specs.ReadForms.{GivesAutomaton}
-use Rattle.daachorse_bytewise.specs.WrittenForms.{IsAutomaton, written_form}
+use Rattle.daachorse.specs.bytewise.Automata.{Automaton, dictionary_of, kind_of}
+use Rattle.daachorse.specs.bytewise.Building.{IsBuiltOf}
+use Rattle.daachorse.specs.Forms.{number_form, take_number}
+use Rattle.daachorse.specs.bytewise.ReadForms.{GivesAutomaton}
+use Rattle.daachorse.specs.bytewise.WrittenForms.{IsAutomaton, written_form}
 use Rattle.daacfind_command.specs.Commands.{Tells}
 use Rattle.daacfind_command.specs.Runs.{value_gives}
 use Rattle.daacgrep_command.specs.declared.flag.Flag.{Flag}

@@ -4,12 +4,12 @@ use Rattle.std.specs.Borrow.{Bor}
 use Rattle.std.specs.Int.{w32}
 use Rattle.std.specs.List.{Contains}
 use Rattle.daachorse_model.specs.Folding.{all_as_read}
-use Rattle.daachorse_bytewise.specs.Automata.{Automaton}
-use Rattle.daachorse_bytewise.specs.Building.{IsBuildRefusal}
-use Rattle.daachorse_bytewise.specs.DaachorseError.{DaachorseError}
-use Rattle.daachorse_bytewise.specs.Forms.{take_number}
-use Rattle.daachorse_bytewise.specs.ReadForms.{GivesAutomaton, GivesNoAutomaton}
-use Rattle.daachorse_bytewise.specs.Refusals.{IsOutOfMemory}
+use Rattle.daachorse.specs.bytewise.Automata.{Automaton}
+use Rattle.daachorse.specs.bytewise.Building.{IsBuildRefusal}
+use Rattle.daachorse.specs.DaachorseError.{DaachorseError}
+use Rattle.daachorse.specs.Forms.{take_number}
+use Rattle.daachorse.specs.bytewise.ReadForms.{GivesAutomaton, GivesNoAutomaton}
+use Rattle.daachorse.specs.Refusals.{IsOutOfMemory}
 use Rattle.daacfind_command.specs.Commands.{Tells}
 use Rattle.daacfind_command.specs.Runs.{value_gives}
 use Rattle.daacgrep_command.specs.declared.error.CommandError.{CommandError}

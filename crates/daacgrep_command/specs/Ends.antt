@@ -1,7 +1,7 @@
 -- How a command ends.
 use Rattle.std.specs.Prelude.{◌≡◌, ◌⊎◌, ◌+◌, ◌<◌, ℕ, List, [], ◌++◌, Option, Result, Ok, Err}
 use Rattle.std.specs.Io.KnownBytes.{Appends, Keeps}
-use Rattle.daachorse_bytewise.specs.Replaced.{AppendsBeginning}
+use Rattle.daachorse.specs.Replaced.{AppendsBeginning}
 use Rattle.daacgrep_command.specs.declared.error.CommandError.{CommandError}
 use Rattle.daacgrep_command.specs.declared.error.CommandError.TheVariants.{Options, Write}
 use Rattle.daacgrep_command.specs.declared.options.OptionError.{OptionError}

@@ -1,7 +1,7 @@
 -- What is sent to an output.
 use Rattle.std.specs.Prelude.{◌≡◌, ◌+◌, ℕ, List, Option, OnErr, OnOk, Result}
 use Rattle.std.specs.Io.KnownBytes.{Appends}
-use Rattle.daachorse_bytewise.specs.Replaced.{AppendsBeginning}
+use Rattle.daachorse.specs.Replaced.{AppendsBeginning}
 
 -- the bytes that were taken, if known, the number of failures, and that of the writes after the last flush
 pub record Sent : Type 0 where

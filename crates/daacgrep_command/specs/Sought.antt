@@ -8,7 +8,7 @@ use Rattle.daachorse_model.specs.Folding.{as_read}
 use Rattle.daachorse_model.specs.Leftmost.{leftmost}
 use Rattle.daachorse_model.specs.Matches.{overlapping}
 use Rattle.daachorse_model.specs.Units.{byte_width}
-use Rattle.daachorse_bytewise.specs.Automata.{Automaton, dictionary_of, kind_of}
+use Rattle.daachorse.specs.bytewise.Automata.{Automaton, dictionary_of, kind_of}
 
 -- what is sought: the patterns of a dictionary, in lines as they are read, by searches of a kind
 pub record Sought : Type 0 where

@@ -33,7 +33,7 @@ struct Front {
 /// Returns the next line with a match, or with `inverts` the next one without. The first `clear`
 /// bytes are lines without a match.
 #[inline]
-pub fn look_ahead<A: Allocator>(
+pub fn look_ahead<A: Allocator + Copy>(
     searcher: &Searcher<A>,
     inverts: bool,
     mark: u8,
@@ -51,7 +51,11 @@ pub fn look_ahead<A: Allocator>(
 }
 
 #[inline]
-fn next_with_match<A: Allocator>(searcher: &Searcher<A>, mark: u8, text: &[u8]) -> Option<Ahead>
+fn next_with_match<A: Allocator + Copy>(
+    searcher: &Searcher<A>,
+    mark: u8,
+    text: &[u8],
+) -> Option<Ahead>
     ensures { IsNext (sought_of searcher.now) mark false text.now result }
 {
     let mut skip = 0;
@@ -70,7 +74,7 @@ fn next_with_match<A: Allocator>(searcher: &Searcher<A>, mark: u8, text: &[u8]) 
     None
 }
 
-fn next_without_match<A: Allocator>(
+fn next_without_match<A: Allocator + Copy>(
     searcher: &Searcher<A>,
     mark: u8,
     text: &[u8],
@@ -93,7 +97,7 @@ fn next_without_match<A: Allocator>(
 }
 
 // The place of the next lines without a match, and how many bytes they take.
-fn clear_lines<A: Allocator>(
+fn clear_lines<A: Allocator + Copy>(
     searcher: &Searcher<A>,
     mark: u8,
     text: &[u8],
@@ -119,7 +123,7 @@ fn clear_lines<A: Allocator>(
 }
 
 #[inline]
-fn read_front<A: Allocator>(searcher: &Searcher<A>, mark: u8, text: &[u8]) -> Front
+fn read_front<A: Allocator + Copy>(searcher: &Searcher<A>, mark: u8, text: &[u8]) -> Front
     requires { 0 < length text.now }
     ensures { IsFront (sought_of searcher.now) mark text.now result }
 {

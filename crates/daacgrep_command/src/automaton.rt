@@ -3,12 +3,12 @@
 ghost use Rattle.std.specs.Prelude.{◌≡◌, ◌∷◌, [], ◌<◌, ◌^◌, ◌↔◌, ℕ, IfErr, IfOk, IsTrue, List, OnErr, OnOk, map};
 ghost use Rattle.std.specs.Int.{w32};
 ghost use Rattle.daachorse_model.specs.Folding.{all_as_read};
-ghost use Rattle.daachorse_bytewise.specs.Automata.{kind_of};
-ghost use Rattle.daachorse_bytewise.specs.Building.{IsBuiltOf, IsBuildRefusal};
-ghost use Rattle.daachorse_bytewise.specs.Forms.{number_form, take_number};
-ghost use Rattle.daachorse_bytewise.specs.DaachorseError.{DaachorseError};
-ghost use Rattle.daachorse_bytewise.specs.ReadForms.{GivesAutomaton};
-ghost use Rattle.daachorse_bytewise.specs.WrittenForms.{IsAutomaton, written_form};
+ghost use Rattle.daachorse.specs.bytewise.Automata.{kind_of};
+ghost use Rattle.daachorse.specs.bytewise.Building.{IsBuiltOf, IsBuildRefusal};
+ghost use Rattle.daachorse.specs.Forms.{number_form, take_number};
+ghost use Rattle.daachorse.specs.DaachorseError.{DaachorseError};
+ghost use Rattle.daachorse.specs.bytewise.ReadForms.{GivesAutomaton};
+ghost use Rattle.daachorse.specs.bytewise.WrittenForms.{IsAutomaton, written_form};
 ghost use Rattle.daacfind_command.specs.Runs.{value_gives};
 ghost use Rattle.daacgrep_command.specs.declared.error.CommandError.TheVariants.{Load};
 ghost use Rattle.daacgrep_command.specs.declared.flag.Flag.TheVariants.{IgnoreCase, Values};

@@ -48,7 +48,7 @@ impl Outcome {
     }
 }
 
-impl<A: Allocator> Job<'_, A> {
+impl<A: Allocator + Copy> Job<'_, A> {
     /// Writes what the task asks of each of the files, and returns what came of it. A file that
     /// cannot be read, or not to its end, is reported on `err`, and the search goes on with the next.
     pub fn search_files<F: FileSystem, S: Output, M: Messages>(

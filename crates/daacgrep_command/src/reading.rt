@@ -27,7 +27,7 @@ struct Progress {
     selected: usize,
 }
 
-impl<A: Allocator> Job<'_, A> {
+impl<A: Allocator + Copy> Job<'_, A> {
     /// Writes what the task asks of the file that was opened last, and returns what came of it.
     /// Where the file cannot be read on, there is trouble, and the search ends there.
     pub fn search_open<F: FileSystem, S: Output>(

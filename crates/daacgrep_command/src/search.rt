@@ -56,7 +56,7 @@ pub struct Job<'j, A: Allocator> {
     pub task: Task,
 }
 
-impl<'j, A: Allocator> Job<'j, A> {
+impl<'j, A: Allocator + Copy> Job<'j, A> {
     /// Writes each selected line of a part, or its matches, if that is asked, and returns how many
     /// lines are selected.
     pub fn write_selected<S: Output>(

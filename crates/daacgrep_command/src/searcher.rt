@@ -25,7 +25,7 @@ enum Kept<A: Allocator> {
 
 impl<A: Allocator> Model for Searcher<A> {
     ghost use Rattle.std.specs.Prelude.{ℕ};
-    ghost use Rattle.daachorse_bytewise.specs.Automata.{Automaton};
+    ghost use Rattle.daachorse.specs.bytewise.Automata.{Automaton};
     ghost use Rattle.daacgrep_command.specs.declared.searcher.Kept.TheVariants.{Plain, Rows};
 
     ghost Value = { Automaton ℕ };
@@ -52,7 +52,7 @@ impl<A: Allocator + Copy> Searcher<A> {
     }
 }
 
-impl<A: Allocator> Searcher<A> {
+impl<A: Allocator + Copy> Searcher<A> {
     /// Returns whether a pattern occurs in the line.
     #[inline]
     pub fn is_match(&self, line: &[u8]) -> bool
@@ -77,7 +77,7 @@ impl<A: Allocator> Searcher<A> {
 }
 
 #[inline]
-fn plain_matches<'a, A: Allocator>(
+fn plain_matches<'a, A: Allocator + Copy>(
     automaton: &'a DoubleArrayAhoCorasick<u32, A>,
     line: &'a [u8],
 ) -> Found<'a, A>
@@ -94,7 +94,7 @@ fn plain_matches<'a, A: Allocator>(
 }
 
 #[inline]
-fn rowed_matches<'a, A: Allocator>(
+fn rowed_matches<'a, A: Allocator + Copy>(
     searcher: &'a Accelerated<u32, A>,
     line: &'a [u8],
 ) -> Found<'a, A>

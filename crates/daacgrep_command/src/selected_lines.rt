@@ -44,7 +44,7 @@ impl<'a, A: Allocator> Model for SelectedLines<'a, A> {
         × AreClear (sought_of s.searcher.now) s.mark s.clear s.rest.now };
 }
 
-impl<'a, A: Allocator> SelectedLines<'a, A> {
+impl<'a, A: Allocator + Copy> SelectedLines<'a, A> {
     /// The selected ones of these lines, where a mark ends each.
     pub fn new(
         searcher: &'a Searcher<A>,
@@ -69,7 +69,7 @@ impl<'a, A: Allocator> SelectedLines<'a, A> {
     }
 }
 
-impl<'a, A: Allocator> Iterator for SelectedLines<'a, A> {
+impl<'a, A: Allocator + Copy> Iterator for SelectedLines<'a, A> {
     ghost use Rattle.std.specs.Iterator.{YieldsFirstBy, item_count};
     ghost use Rattle.daacgrep_command.specs.Lines.{seen};
 

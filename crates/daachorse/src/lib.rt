@@ -23,7 +23,10 @@
 //! - [`DoubleArrayAhoCorasick`] searches bytes, and [`CharwiseDoubleArrayAhoCorasick`] text, by
 //!   characters. Their builders set the kind of matches, the prefilter and the layout.
 //! - [`bytewise::Accelerated`] and [`charwise::Accelerated`], made by `accelerate`, have the same
-//!   searches, which are faster if the automaton is small. A function over [`Lends`] takes both.
+//!   searches, which are faster if the automaton is small.
+//! - [`automaton::AhoCorasick`] is each of these four, by what it searches through, and has their
+//!   searches, streams and replacements. A function over [`Lends`] takes any of them, and reads
+//!   bytes or readers if the unit is [`FromBytes`] or [`FromReader`].
 //! - [`in_blocks`] makes a reader of blocks of what gives bytes, to search it.
 //! - [`MatchKind`] selects the matches to report, and [`Match`] is one of them.
 //! - [`errors`] has the error type of all calls, and [`Result`] is a result with it.
@@ -40,13 +43,13 @@
 //! 16 over characters, and an output 8 bytes and its value.
 #![tactic(auto)]
 
+pub mod automaton;
+pub mod bytewise;
+pub mod charwise;
+
+pub use crate::bytewise::{DoubleArrayAhoCorasick, DoubleArrayAhoCorasickBuilder};
+pub use crate::charwise::{CharwiseDoubleArrayAhoCorasick, CharwiseDoubleArrayAhoCorasickBuilder};
 pub use daachorse_build::{edge_map, nfa_builder};
-pub use daachorse_bytewise::bytewise;
-pub use daachorse_bytewise::bytewise::{DoubleArrayAhoCorasick, DoubleArrayAhoCorasickBuilder};
-pub use daachorse_charwise::charwise;
-pub use daachorse_charwise::charwise::{
-    CharwiseDoubleArrayAhoCorasick, CharwiseDoubleArrayAhoCorasickBuilder,
-};
 pub use daachorse_core::errors::Result;
 pub use daachorse_core::{
     DEAD_STATE_IDX, Empty, Match, MatchKind, Output, ROOT_STATE_IDX, counter, errors, turns, utils,
@@ -59,4 +62,5 @@ pub use daachorse_serializer::serializer::Serializable;
 pub use daachorse_serializer::{intpack, serializer};
 pub use daachorse_streams::leftmost_standing::LeftmostStanding;
 pub use daachorse_streams::searched::{Lends, Searched};
+pub use daachorse_streams::sources::{FromBytes, FromReader};
 pub use daachorse_streams::stream_marks::StreamMarks;

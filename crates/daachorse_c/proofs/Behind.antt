@@ -1,4 +1,4 @@
--- Text behind a beginning of it.
+-- Text after a beginning of it.
 use Rattle.std.proofs.Common.{◌≡◌, ℕ, ◌<◌, ◌≤◌, ◌++◌, Bool, true, false, List, [], ◌∷◌, drop, take, length, refl, sym, ap, ◌∙◌, length-append, arith}
 use Rattle.std.specs.Str.{chars}
 use Rattle.std.proofs.lemmas.List.{take-append-drop}

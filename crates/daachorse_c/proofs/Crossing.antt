@@ -36,23 +36,22 @@ use Rattle.daachorse_streams.specs.contracts.scan.Pending as pending
 use Rattle.daachorse_streams.specs.contracts.scan.Scan as scan
 use Rattle.daachorse_streams.specs.contracts.search.Search as searching
 use Rattle.daachorse_streams.specs.contracts.stream_marks.StreamMarks as marks
-use Rattle.daachorse_bytewise.proofs.bytewise.AhoCorasick.TheSendSync as over_bytes
-use Rattle.daachorse_bytewise.proofs.bytewise.Plain.TheSendSync as plain_bytes
-use Rattle.daachorse_bytewise.proofs.bytewise.accelerated.Rowed.TheSendSync as rowed_bytes
-use Rattle.daachorse_charwise.proofs.charwise.AhoCorasick.TheSendSync as over_characters
-use Rattle.daachorse_charwise.proofs.charwise.Plain.TheSendSync as plain_characters
-use Rattle.daachorse_charwise.proofs.charwise.accelerated.Rowed.TheSendSync as rowed_characters
+use Rattle.daachorse.proofs.automaton.AhoCorasick.TheSendSync as over
+use Rattle.daachorse.proofs.bytewise.Plain.TheSendSync as plain_bytes
+use Rattle.daachorse.proofs.bytewise.accelerated.Rowed.TheSendSync as rowed_bytes
+use Rattle.daachorse.proofs.charwise.Plain.TheSendSync as plain_characters
+use Rattle.daachorse.proofs.charwise.accelerated.Rowed.TheSendSync as rowed_characters
 use Rattle.daachorse_c.specs.contracts.automaton.Searcher as automaton
 use Rattle.daachorse_c.specs.contracts.automaton.Searcher.TheInside as inside
-use Rattle.daachorse_c.specs.contracts.begun.Begun as begun
-use Rattle.daachorse_c.specs.contracts.begun.Begun.TheInside as begun_inside
+use Rattle.daachorse_c.specs.contracts.partial.Partial as partial_unit
+use Rattle.daachorse_c.specs.contracts.partial.Partial.TheInside as partial_inside
 use Rattle.daachorse_c.specs.contracts.bytewise.Bytewise as bytewise
 use Rattle.daachorse_c.specs.contracts.charwise.Charwise as charwise
 use Rattle.daachorse_c.specs.contracts.searches.Searches as searches
 use Rattle.daachorse_c.specs.contracts.stepper.Standing as standing
 use Rattle.daachorse_c.specs.contracts.stream.Stream as stream
 use Rattle.daachorse_c.specs.contracts.streams.Streams as streams
-use Rattle.daachorse_c.specs.contracts.teller.TellerStanding as teller
+use Rattle.daachorse_c.specs.contracts.overlapping_stream.OverlappingStreamStanding as overlapping_stream
 
 counter_send : IsSend counter.the_row
 counter_send = let s = snapshot_send in search sendable depth 20
@@ -71,10 +70,10 @@ find_send =
     let o = option.the_field_send _ nonzero.the_send in
     view_send _ _ _ _ _ (recorded_send find_inside.the_field.row _ _ find_inside.the_type.to_one (struct_send (shape find_inside.the_type) (walk_send, (o, (search sendable, (o, tt))))))
 
-teller_send : IsSend teller.the_field.row
-teller_send =
+overlapping_send : IsSend overlapping_stream.the_field.row
+overlapping_send =
     let o = option.the_field_send _ nonzero.the_send in
-    struct_send (shape teller.the_type) (walk_send, (search sendable, (search sendable, (o, tt))))
+    struct_send (shape overlapping_stream.the_type) (walk_send, (search sendable, (search sendable, (o, tt))))
 
 pending_send : IsSend pending.the_row
 pending_send = recorded_send pending.the_field.row _ _ pending.the_type.to_one (struct_send (shape pending.the_type) (nonzero.the_field_send, (search sendable, tt)))
@@ -101,15 +100,15 @@ marks_send = struct_send (shape (marks.the_type Heap.the_row ghosts)) (Vec-send 
 standing_send : (unit : RattleType) → IsSend unit
     → (e : edge.Ghosts unit.Denot) (o : ord.Ghosts unit.Denot) (p : equal.Ghosts unit.Denot) (q : partial.Ghosts unit.Denot)
     → IsSend (standing.the_field unit e o p q).row
-standing_send unit sent e o p q = enum_send (enum_shape (standing.the_type unit e o p q)) ((find_send, (search sendable, tt)), ((teller_send, tt), ((leftmost_send unit sent e o p q, tt), tt)))
+standing_send unit sent e o p q = enum_send (enum_shape (standing.the_type unit e o p q)) ((find_send, (search sendable, tt)), ((overlapping_send, tt), ((leftmost_send unit sent e o p q, tt), tt)))
 
-begun_send : IsSend begun.the_row
-begun_send = view_send _ _ _ _ _ (recorded_send begun_inside.the_field.row _ _ begun_inside.the_type.to_one (struct_send (shape begun_inside.the_type) (search sendable, (search sendable, tt))))
+partial_send : IsSend partial_unit.the_row
+partial_send = view_send _ _ _ _ _ (recorded_send partial_inside.the_field.row _ _ partial_inside.the_type.to_one (struct_send (shape partial_inside.the_type) (search sendable, (search sendable, tt))))
 
 stream_send : (unit : RattleType) → IsSend unit
     → (e : edge.Ghosts unit.Denot) (o : ord.Ghosts unit.Denot) (p : equal.Ghosts unit.Denot) (q : partial.Ghosts unit.Denot)
     → IsSend (stream.the_field unit e o p q).row
-stream_send unit sent e o p q = struct_send (shape (stream.the_type unit e o p q)) (standing_send unit sent e o p q, (begun_send, (marks_send, (search sendable, (search sendable, tt)))))
+stream_send unit sent e o p q = struct_send (shape (stream.the_type unit e o p q)) (standing_send unit sent e o p q, (partial_send, (marks_send, (search sendable, (search sendable, tt)))))
 
 streams_send : IsSend streams.the_row
 streams_send =
@@ -119,19 +118,19 @@ streams_send =
     (enum_send (enum_shape streams.the_type) ((bytes, tt), ((characters, tt), tt)))
 
 bytewise_send : IsSend bytewise.the_field.row
-bytewise_send = let a = heap.the_send in let f = frees in search (sendable, over_bytes.the_send, plain_bytes.the_send, rowed_bytes.the_send) depth 20
+bytewise_send = let a = heap.the_send in let f = frees in search (sendable, over.the_send, plain_bytes.the_send, rowed_bytes.the_send) depth 20
 
 charwise_send : IsSend charwise.the_field.row
-charwise_send = let a = heap.the_send in let f = frees in search (sendable, over_characters.the_send, plain_characters.the_send, rowed_characters.the_send) depth 20
+charwise_send = let a = heap.the_send in let f = frees in search (sendable, over.the_send, plain_characters.the_send, rowed_characters.the_send) depth 20
 
 searches_send : IsSend searches.the_row
 searches_send = recorded_send searches.the_field.row _ _ searches.the_type.to_one (enum_send (enum_shape searches.the_type) ((bytewise_send, tt), ((charwise_send, tt), tt)))
 
 bytewise_sync : IsSync bytewise.the_field.row
-bytewise_sync = let a = heap.the_sync in search (sendable, over_bytes.the_sync, plain_bytes.the_sync, rowed_bytes.the_sync) depth 20
+bytewise_sync = let a = heap.the_sync in search (sendable, over.the_sync, plain_bytes.the_sync, rowed_bytes.the_sync) depth 20
 
 charwise_sync : IsSync charwise.the_field.row
-charwise_sync = let a = heap.the_sync in search (sendable, over_characters.the_sync, plain_characters.the_sync, rowed_characters.the_sync) depth 20
+charwise_sync = let a = heap.the_sync in search (sendable, over.the_sync, plain_characters.the_sync, rowed_characters.the_sync) depth 20
 
 searches_sync : IsSync searches.the_row
 searches_sync = recorded_sync searches.the_field.row _ _ searches.the_type.to_one (enum_sync (enum_shape searches.the_type) ((bytewise_sync, tt), ((charwise_sync, tt), tt)))

@@ -65,8 +65,8 @@ pub record IsBegun (whole rest old new : List ℕ) (size : ℕ) : Type 0 where
   pub splits : whole ≡ text ++ rest
   pub cut : IsCut text old new size
 
-pub begun_nothing : (whole old : List ℕ) → IsBegun whole whole old old 0
-begun_nothing whole old = record {
+pub partial_nothing : (whole old : List ℕ) → IsBegun whole whole old old 0
+partial_nothing whole old = record {
   text = [];
   splits = refl;
   cut = record {
@@ -76,15 +76,15 @@ begun_nothing whole old = record {
 }
 
 -- a piece more
-pub begun_more : {whole old new next : List ℕ} {size more : ℕ} (piece rest : List ℕ) → IsBegun whole (piece ++ rest) old new size
+pub partial_more : {whole old new next : List ℕ} {size more : ℕ} (piece rest : List ℕ) → IsBegun whole (piece ++ rest) old new size
     → ((text first : List ℕ) → IsCut text first new size → IsCut (text ++ piece) first next more) → IsBegun whole rest old next more
-begun_more piece rest b puts = record {
+partial_more piece rest b puts = record {
   text = b.text ++ piece;
   splits = b.splits ∙ sym (append_assoc b.text piece rest);
   cut = puts b.text _ b.cut;
 }
 
 -- the last piece
-pub all_begun : {whole old new next : List ℕ} {size more : ℕ} (piece : List ℕ) → IsBegun whole piece old new size
+pub all_partial : {whole old new next : List ℕ} {size more : ℕ} (piece : List ℕ) → IsBegun whole piece old new size
     → ((text first : List ℕ) → IsCut text first new size → IsCut (text ++ piece) first next more) → IsCut whole old next more
-all_begun {whole} {old} {new} {next} {size} {more} piece b puts = subst (λ l. IsCut l old next more) (sym b.splits) (puts b.text old b.cut)
+all_partial {whole} {old} {new} {next} {size} {more} piece b puts = subst (λ l. IsCut l old next more) (sym b.splits) (puts b.text old b.cut)

@@ -16,27 +16,27 @@ still_open true size none some = absurd (omega (arith, none refl, some))
 still_open false size none some = refl
 
 -- no unit begins with no bytes
-pub none_later : {which : Unit} {begun units later : List ℕ} (bytes : List ℕ) (n : ℕ) → Spells which begun (take n bytes) units later → begun ≡ [] → length bytes ≡ 0 → later ≡ []
-none_later {which} {begun} {units} {later} bytes n s none empty =
+pub none_later : {which : Unit} {partial units later : List ℕ} (bytes : List ℕ) (n : ℕ) → Spells which partial (take n bytes) units later → partial ≡ [] → length bytes ≡ 0 → later ≡ []
+none_later {which} {partial} {units} {later} bytes n s none empty =
     let long = ap length s.splits in
-    nil_from_length later (omega (arith, long, ap length none, empty, length-take n bytes, length-append begun (take n bytes), length-append (spelled_in which units) later))
+    nil_from_length later (omega (arith, long, ap length none, empty, length-take n bytes, length-append partial (take n bytes), length-append (spelled_in which units) later))
 
-goes_ended : {P : Type 0} {which : Unit} {width : ℕ → ℕ} {sees : P → AutomatonView ℕ} {p : P} {kind : MatchKind} {folds : Bool} {s : Stream ℕ} → GoesOnOver which width sees p kind folds s → s.begun ≡ [] → GoesOnOver which width sees p kind folds (record s { ended = true })
+goes_ended : {P : Type 0} {which : Unit} {width : ℕ → ℕ} {sees : P → AutomatonView ℕ} {p : P} {kind : MatchKind} {folds : Bool} {s : Stream ℕ} → GoesOnOver which width sees p kind folds s → s.partial ≡ [] → GoesOnOver which width sees p kind folds (record s { ended = true })
 goes_ended on none = record {
   serves = on.serves;
   marks = on.marks;
   stands = on.stands;
   unended = λ is. let no : true ≡ false = is in cc;
-  told = on.told;
+  reported = on.reported;
   counted = on.counted;
-  begun = on.begun;
+  partial = on.partial;
   whole = λ is. none;
 }
 
-pub through_ended-bytes : (a : Automaton) (s : Stream ℕ) → GoesThrough a (OfBytes s) → s.begun ≡ [] → GoesThrough a (OfBytes (record s { ended = true }))
+pub through_ended-bytes : (a : Automaton) (s : Stream ℕ) → GoesThrough a (OfBytes s) → s.partial ≡ [] → GoesThrough a (OfBytes (record s { ended = true }))
 through_ended-bytes (Bytes a) s on none = goes_ended on none
 through_ended-bytes (Characters a) s on none = absurd on
 
-pub through_ended-characters : (a : Automaton) (s : Stream ℕ) → GoesThrough a (OfCharacters s) → s.begun ≡ [] → GoesThrough a (OfCharacters (record s { ended = true }))
+pub through_ended-characters : (a : Automaton) (s : Stream ℕ) → GoesThrough a (OfCharacters s) → s.partial ≡ [] → GoesThrough a (OfCharacters (record s { ended = true }))
 through_ended-characters (Bytes a) s on none = absurd on
 through_ended-characters (Characters a) s on none = goes_ended on none

@@ -1,4 +1,4 @@
--- A stream goes on: what its stepper was fed and told is what the stream takes and tells.
+-- A stream goes on: what its stepper was fed and reported is what the stream takes and reports.
 use Rattle.std.proofs.Common.{◌≡◌, ℕ, ◌+◌, ◌≤◌, ◌++◌, Bool, List, take, drop, sym, ap, ◌∙◌, subst, arith}
 use Rattle.std.proofs.lemmas.List.{drop_at, take_at}
 use Rattle.daachorse_model.specs.declared.Match.{Match}
@@ -12,26 +12,26 @@ use Rattle.daachorse_c.specs.declared.stepper.Stepper.{Stepper}
 use Rattle.daachorse_c.specs.declared.stream.Stream.{Stream}
 use Rattle.daachorse_c.specs.declared.unit.Unit.{Unit}
 use Rattle.daachorse_c.specs.Feeding.{Feeds}
-use Rattle.daachorse_c.specs.Streams.{AreAllCertain, GoesOnOver, IsOver, TellsBy, folds_in, kind_by, kind_in, read_by, read_in, told_in}
+use Rattle.daachorse_c.specs.Streams.{AreAllCertain, GoesOnOver, IsOver, ReportsBy, folds_in, kind_by, kind_in, read_by, read_in, reported_in}
 use Rattle.daachorse_c.specs.Writes.{WritesAll}
-use Rattle.daachorse_c.proofs.Saving.{Saves, dictionary_over, saved-certain, saved-so_far, saved-told, saved-whole}
+use Rattle.daachorse_c.proofs.Saving.{Saves, dictionary_over, saved-certain, saved-so_far, saved-reported, saved-whole}
 use Rattle.daachorse_c.proofs.Steppers.{moved}
 
 module _ {P T U V W : Type 0} {which : Unit} {width : ℕ → ℕ} (wide : (u : ℕ) → 1 ≤ width u) {sees : P → AutomatonView ℕ} {p : P} {kind : MatchKind} {folded : Bool} {bytes : List ℕ} {s t : Stream ℕ} {before after : Stepper P P T U V W} {old new : List CMatch} {done : Done}
     (goes_on : GoesOnOver which width sees p kind folded s) (over : IsOver p p before) (folds : folds_in before ≡ folded) (search : kind_in before ≡ kind_by s.standing) (read : read_in before ≡ read_by s.standing)
-    (feeds : Feeds which width sees sees bytes (told_in width (sees p).content s) before after s.begun t.begun old new done)
-    (saves : Saves width sees p folded (kind_by s.standing) t after (told_in width (sees p).content s ++ feeds.tells.more)) (ended : t.ended ≡ s.ended) (counted : t.told ≡ s.told + done.written) where
+    (feeds : Feeds which width sees sees bytes (reported_in width (sees p).content s) before after s.partial t.partial old new done)
+    (saves : Saves width sees p folded (kind_by s.standing) t after (reported_in width (sees p).content s ++ feeds.reports.more)) (ended : t.ended ≡ s.ended) (counted : t.reported ≡ s.reported + done.written) where
   abbrev K : Dictionary ℕ
   K = (sees p).content
 
-  abbrev told : List (Match ℕ)
-  told = told_in width K s
+  abbrev reported : List (Match ℕ)
+  reported = reported_in width K s
 
-  told_is : told_in width K t ≡ told ++ feeds.tells.more
-  told_is = saved-told wide saves
+  reported_is : reported_in width K t ≡ reported ++ feeds.reports.more
+  reported_is = saved-reported wide saves
 
-  pub tells : TellsBy which width K folded bytes s t old new done
-  tells = record {
+  pub reports : ReportsBy which width K folded bytes s t old new done
+  reports = record {
     search = saves.search ∙ saves.kind;
     ended = ended;
     within = feeds.within;
@@ -39,13 +39,13 @@ module _ {P T U V W : Type 0} {which : Unit} {width : ℕ → ℕ} (wide : (u : 
     spells = feeds.spells;
     read = saves.read ∙ feeds.read ∙ ap (λ l. l ++ as_read (folds_in before) feeds.units) read ∙ ap (λ b. read_by s.standing ++ as_read b feeds.units) folds;
     counted = counted;
-    told = ap (take s.told) told_is ∙ take_at told feeds.tells.more s.told goes_on.counted;
-    writes = subst (λ l. WritesAll l old new done.written) (sym (ap (drop s.told) told_is ∙ drop_at told feeds.tells.more s.told goes_on.counted)) feeds.tells.writes;
+    reported = ap (take s.reported) reported_is ∙ take_at reported feeds.reports.more s.reported goes_on.counted;
+    writes = subst (λ l. WritesAll l old new done.written) (sym (ap (drop s.reported) reported_is ∙ drop_at reported feeds.reports.more s.reported goes_on.counted)) feeds.reports.writes;
     needed = λ n next.
         let w = feeds.needed n next in record {
           some = w.some;
           rest = w.rest;
-          first = told_is ∙ w.first;
+          first = reported_is ∙ w.first;
           units = w.units;
           later = w.later;
           spells = w.spells;

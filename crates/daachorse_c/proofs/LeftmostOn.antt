@@ -1,4 +1,4 @@
--- Where a leftmost search goes on behind a match, and what it finds that begins there.
+-- Where a leftmost search goes on after a match, and what it finds that begins there.
 use Rattle.std.proofs.Common.{◌≡◌, ℕ, ◌+◌, ◌<◌, ◌≤◌, Bool, true, false, List, [], ◌∷◌, ◌++◌, length, Option, Some, None, refl, sym, ap, ◌∙◌, add_assoc, length-append, arith}
 use Rattle.std.specs.Prelude.{option_map, slice_get}
 use Rattle.daachorse_model.specs.declared.Match.{Match}
@@ -26,18 +26,18 @@ pub record Behind {V : Type 0} (width : ℕ → ℕ) (K : Dictionary V) (s : ℕ
   pub empty : m.end ≤ m.start → (u : ℕ) (more : List ℕ) → rest ≡ u ∷ more → ms ≡ leftmost_from width K (m.end + width u) 0 false more
   pub last : m.end ≤ m.start → rest ≡ [] → ms ≡ []
 
--- What a search that begins at s finds is what one finds there right behind a nonempty match, but for an empty match at s.
+-- What a search that begins at s finds is what one finds there right after a nonempty match, but for an empty match at s.
 pub record IsAfter {V : Type 0} (s : ℕ) (fresh after : List (Match V)) : Type 0 where
   pub none : fresh ≡ [] → after ≡ []
   pub empty : (m : Match V) (ms : List (Match V)) → fresh ≡ m ∷ ms → m.end ≡ s → after ≡ ms
   pub later : (m : Match V) (ms : List (Match V)) → fresh ≡ m ∷ ms → s < m.end → after ≡ m ∷ ms
 
 module _ {V : Type 0} (width : ℕ → ℕ) (wide : (u : ℕ) → 0 < width u) (K : Dictionary V) where
-  -- what is found at s, and then behind it
+  -- what is found at s, and then after it
   abbrev here : ℕ → ℕ → Bool → List ℕ → Option (List ℕ × V) → List (Match V)
   here s u after w best = match_at width s after best ++ leftmost_from width K (s + width u) (units_to_skip best) (is_after after best) w
 
-  -- ---- behind a match
+  -- ---- after a match
 
   -- an empty match at s, and then these
   behind_empty : (s : ℕ) (w : List ℕ) (v : V) (rest : List (Match V)) (m : Match V) (ms : List (Match V)) → record { start = s; end = s; value = v } ∷ rest ≡ m ∷ ms
@@ -126,7 +126,7 @@ module _ {V : Type 0} (width : ℕ → ℕ) (wide : (u : ℕ) → 0 < width u) (
   behind s after [] m ms e = behind_last s after (longest_key K [] []) m ms (longest_key-begins K [] []) e
   behind s after (u ∷ w) m ms e = behind_by s u after w (longest_key K [] (u ∷ w)) m ms (longest_key-begins K [] (u ∷ w)) (λ a. behind (s + width u) a w m ms) e
 
-  -- ---- right behind a nonempty match
+  -- ---- right after a nonempty match
 
   no_empty : (o : Option (List ℕ × V)) (u : ℕ) (w : List ℕ) (v : V) → K [] ≡ [] → ((k : List ℕ × V) → o ≡ Some k → Begins K [] (u ∷ w) k) → o ≡ Some ([], v) → ⊥
   no_empty o u w v none begins is = let b = begins ([], v) is in let no : [] ≡ v ∷ b.others = sym none ∙ b.first in omega (arith, ap length no)

@@ -18,9 +18,9 @@ mod Rows
 mod Saving
 mod StandardOn
 mod Steppers
-mod Telling
+mod Reporting
 mod Texts
-mod Told
+mod Reported
 mod Values
 mod Writing
 pub mod Asked

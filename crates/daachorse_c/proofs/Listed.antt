@@ -1,4 +1,4 @@
--- A pattern behind the others.
+-- A pattern after the others.
 use Rattle.std.proofs.Common.{◌≡◌, ℕ, ◌+◌, ◌-◌, ◌≤◌, List, [], ◌∷◌, ◌++◌, length, drop, take, slice_range, refl, ap, ◌∙◌, length-append, arith}
 use Rattle.std.proofs.lemmas.List.{drop-append-le, drop_at, length-drop, length_push, map-append, take-append-le, take_all}
 use Rattle.std.specs.Str.{chars}

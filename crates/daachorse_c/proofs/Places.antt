@@ -1,4 +1,4 @@
--- What is left of a search behind what it found.
+-- What is left of a search after what it found.
 use Rattle.std.proofs.Common.{
   ◌≡◌,
   ◌≢◌,
@@ -32,7 +32,6 @@ use Rattle.std.proofs.Common.{
   arith,
 }
 use Rattle.std.specs.Prelude.{IfNone, slice_get}
-use Rattle.std.specs.Str.{IsCharBoundary}
 use Rattle.std.proofs.lemmas.Bool.{cases_lt}
 use Rattle.std.proofs.lemmas.List.{drop-drop, length-drop}
 use Rattle.daachorse_model.specs.declared.Match.{Match}
@@ -41,11 +40,11 @@ use Rattle.daachorse_model.specs.declared.MatchKind.TheVariants.{Standard, Leftm
 use Rattle.daachorse_model.specs.Dictionary.{Dictionary}
 use Rattle.daachorse_model.specs.Leftmost.{leftmost_from}
 use Rattle.daachorse_model.specs.Matches.{standard, shifted}
-use Rattle.daachorse_model.specs.Units.{size}
+use Rattle.daachorse_model.specs.Units.{byte_width, char_width, size}
 use Rattle.daachorse_model.proofs.Shifts.{leftmost_from-shifted}
 use Rattle.daachorse_streams.specs.ByKind.{non_overlapping}
 use Rattle.daachorse_streams.specs.Replaced.{AreParts}
-use Rattle.daachorse_streams.proofs.Cuts.{parts_of_bytes, parts_of_text}
+use Rattle.daachorse_streams.proofs.Cuts.{bytes_cut, parts_of, text_cut}
 use Rattle.daachorse_c.specs.declared.place.Place.{Place}
 use Rattle.daachorse_c.specs.Automata.{Automaton, Bytes, Characters, Reads, dictionary_of, folds_of, kind_of, text_read, unit_of, width_of}
 use Rattle.daachorse_c.specs.Units.{IsTextIn, units_in}
@@ -154,7 +153,7 @@ module _ (a : Automaton) (h : List ℕ) where
   abbrev pub found : List ℕ → List (Match ℕ)
   found = non_overlapping (kind_of a) (width_of a) (dictionary_of a)
 
-  -- a place further on, behind units that were read
+  -- a place further on, after units that were read
   further : (at : ℕ) (front rest : List ℕ) → IsPlaceIn a h at → text_read a (drop at h) ≡ front ++ rest
       → IsPlaceIn a h (at + size (width_of a) front) × (text_read a (drop (at + size (width_of a) front) h) ≡ rest)
   further at front rest p is =
@@ -198,7 +197,7 @@ module _ (a : Automaton) (h : List ℕ) (p : Place) where
   pub pass_over : p.over ≡ true → left_of a h p ≡ []
   pass_over is = ap (λ b. cond b [] (found_from (width_of a) (dictionary_of a) (kind_of a) p.at p.after (text_read a (drop p.at h)))) is
 
-  -- a place moves behind the first match, within the haystack
+  -- a place moves after the first match, within the haystack
   pub step_within : (m : Match ℕ) (ms : List (Match ℕ)) (step : ℕ) → IsFirst a h p.at m ms → IsStep a h m.end step → m.end ≤ m.start
       → m.end < length h → m.end + step ≤ length h
   step_within m ms step f is le lt = by (text_read a (drop m.end h)) refl
@@ -238,7 +237,7 @@ module _ (a : Automaton) (h : List ℕ) (p : Place) where
           ∙ ap (λ n. record { at = n; after = false; over = false }) far in
           (subst (λ n. IsPlaceIn a h n) (sym (ap (λ (x : Place). x.at) there)) next.0, next.1 ∙ ap (left_of a h) (sym there))
 
-  -- what is found at the place is what is left, and the place moves behind its first match
+  -- what is found at the place is what is left, and the place moves after its first match
   pub pass_some : p.over ≡ false → (m : Match ℕ) (ms : List (Match ℕ)) → found a h (text_read a (drop p.at h)) ≡ m ∷ ms
       → IsFirst a h p.at (shifted p.at m) (map (shifted p.at) ms)
       → (step : ℕ) (q : Place) → IsStep a h (p.at + m.end) step → StandsBehind (shifted p.at m) step (length h) q
@@ -252,7 +251,7 @@ module _ (a : Automaton) (h : List ℕ) (p : Place) where
             ∙ ap (λ l. shifted p.at m ∷ l) b.1,
       )
 
-  -- ---- right behind a nonempty match
+  -- ---- right after a nonempty match
 
   abbrev text : List ℕ
   text = text_read a (drop p.at h)
@@ -331,18 +330,13 @@ left_whole a h =
 pub begins : (a : Automaton) (h : List ℕ) → Reads a h → IsPlaceIn a h 0
 begins a h reads = record { within = omega arith; reads = reads }
 
--- parts of a text are parts of its bytes
-parts_in_bytes : (h : List ℕ) (s : ℕ) (ms : List (Match ℕ)) → AreParts (IsCharBoundary h) s ms → AreParts (λ i. i ≤ length h) s ms
-parts_in_bytes h s [] here = here.0
-parts_in_bytes h s (m ∷ ms) are = (are.0.0, are.1, are.2.0, are.3, parts_in_bytes h m.end ms are.4)
-
 -- the matches from the beginning are parts of the haystack
 pub left_parts : (a : Automaton) (h : List ℕ) → Reads a h
     → AreParts (λ i. i ≤ length h) 0 (left_of a h (record { at = 0; after = false; over = false }))
 left_parts (Bytes a) h reads =
-    parts_of_bytes (dictionary_of (Bytes a)) (folds_of (Bytes a)) (kind_of (Bytes a)) h _ (left_whole (Bytes a) h)
+    parts_of byte_width (dictionary_of (Bytes a)) (λ i. i ≤ length h) (text_read (Bytes a) h) (bytes_cut (folds_of (Bytes a)) h)
+    (kind_of (Bytes a)) _ (left_whole (Bytes a) h)
 left_parts (Characters a) h reads =
-    let ms = left_of (Characters a) h (record { at = 0; after = false; over = false }) in
-    parts_in_bytes h 0 ms
-    (parts_of_text (dictionary_of (Characters a)) (folds_of (Characters a)) (kind_of (Characters a)) h reads ms
-    (left_whole (Characters a) h))
+    parts_of char_width (dictionary_of (Characters a)) (λ i. i ≤ length h) (text_read (Characters a) h)
+    (λ front back splits. (text_cut (folds_of (Characters a)) h reads front back splits).0) (kind_of (Characters a)) _
+    (left_whole (Characters a) h)

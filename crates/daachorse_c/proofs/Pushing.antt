@@ -1,4 +1,4 @@
--- A byte behind the bytes of a character that has begun.
+-- A byte after the bytes of a partial character.
 use Rattle.std.proofs.Common.{◌≡◌, ◌≢◌, ℕ, ◌<◌, ◌≤◌, inl, inr, List, [], ◌∷◌, ◌++◌, None, Option, drop, take, length, sym, ap, ◌∙◌, subst, length-append, arith}
 use Rattle.std.proofs.lemmas.Bool.{cases_lt}
 use Rattle.std.proofs.lemmas.List.{take-append-le}
@@ -8,25 +8,25 @@ use Rattle.std.specs.Str.{IsErrorLen, IsUtf8, IsValidUpTo}
 use Rattle.std.specs.Str.Lossy.{utf8_error_len}
 use Rattle.daachorse_c.specs.Units.{IsOpenCharacter}
 
-module _ (begun : List ℕ) (byte : ℕ) (has_begun : IsOpenCharacter begun) where
+module _ (partial : List ℕ) (byte : ℕ) (has_begun : IsOpenCharacter partial) where
   abbrev pub pushed : List ℕ
-  pushed = begun ++ byte ∷ []
+  pushed = partial ++ byte ∷ []
 
   -- no beginning is text
-  no_front : (n : ℕ) → 0 < n → n ≤ length begun → ¬ IsUtf8 (take n pushed)
-  no_front n some le text = has_begun.none n some le (subst IsUtf8 (take-append-le n begun (byte ∷ []) le) text)
+  no_front : (n : ℕ) → 0 < n → n ≤ length partial → ¬ IsUtf8 (take n pushed)
+  no_front n some le text = has_begun.none n some le (subst IsUtf8 (take-append-le n partial (byte ∷ []) le) text)
 
   pub whole : (c : ℕ) (rest : List ℕ) → IsUtf8 pushed → pushed ≡ encode c ++ rest → pushed ≡ encode c ++ []
   whole c [] text is = is
   whole c (r ∷ rest) text is =
       let long = ap length is ∙ length-append (encode c) (r ∷ rest) in
       let at = IsCharBoundary-at_seam pushed (encode c) (r ∷ rest) is (IsUtf8-past_char pushed (r ∷ rest) c text is) in
-      absurd (no_front (length (encode c)) (omega (arith, length-encode c, (len_utf8_bounds c).0)) (omega (arith, long, length-append begun (byte ∷ []))) (IsUtf8-take pushed (length (encode c)) text at))
+      absurd (no_front (length (encode c)) (omega (arith, length-encode c, (len_utf8_bounds c).0)) (omega (arith, long, length-append partial (byte ∷ []))) (IsUtf8-take pushed (length (encode c)) text at))
 
   -- the first byte is at fault
   pub from_none : (n : ℕ) → IsValidUpTo pushed n → n ≡ 0
   from_none n valid = elim (cases_lt 0 n) [
-    | inl some ↦ absurd (no_front n some (omega (arith, valid.short, length-append begun (byte ∷ []))) valid.front)
+    | inl some ↦ absurd (no_front n some (omega (arith, valid.short, length-append partial (byte ∷ []))) valid.front)
     | inr none ↦ omega (arith, none)
   ]
 

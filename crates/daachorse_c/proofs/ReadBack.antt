@@ -3,10 +3,10 @@ use Rattle.std.proofs.Common.{◌≡◌, ℕ, ◌+◌, ◌-◌, ◌<◌, ◌≤�
 use Rattle.std.specs.Prelude.{◌^◌}
 use Rattle.std.specs.Int.{w32}
 use Rattle.daachorse_serializer.specs.Forms.{number_form}
-use Rattle.daachorse_bytewise.specs.Automata.{Automaton as Bytewise}
-use Rattle.daachorse_bytewise.specs.WrittenForms.{IsAutomaton as IsBytewise, without_depths as bytewise_alone, written_form as bytewise_form}
-use Rattle.daachorse_charwise.specs.Automata.{Automaton as Charwise}
-use Rattle.daachorse_charwise.specs.WrittenForms.{IsAutomaton as IsCharwise, without_depths as charwise_alone, written_form as charwise_form}
+use Rattle.daachorse.specs.bytewise.Automata.{Automaton as Bytewise}
+use Rattle.daachorse.specs.bytewise.WrittenForms.{IsAutomaton as IsBytewise, without_depths as bytewise_alone, written_form as bytewise_form}
+use Rattle.daachorse.specs.charwise.Automata.{Automaton as Charwise}
+use Rattle.daachorse.specs.charwise.WrittenForms.{IsAutomaton as IsCharwise, without_depths as charwise_alone, written_form as charwise_form}
 use Rattle.daachorse_c.specs.declared.unit.Unit.{Unit}
 use Rattle.daachorse_c.specs.declared.unit.Unit.TheVariants.{Byte, Character}
 use Rattle.daachorse_c.specs.Automata.{Automaton, Bytes, Characters, unit_of}

@@ -1,4 +1,4 @@
--- Where the standard search goes on behind a match: as one that begins there, further on.
+-- Where the standard search goes on after a match: as one that begins there, further on.
 use Rattle.std.proofs.Common.{◌≡◌, ℕ, ◌+◌, ◌<◌, ◌≤◌, List, [], ◌∷◌, ◌++◌, map, take, length, refl, sym, ap, ◌∙◌, add_assoc, append_assoc, arith}
 use Rattle.daachorse_model.specs.declared.Match.{Match}
 use Rattle.daachorse_model.specs.Dictionary.{Dictionary}

@@ -6,7 +6,7 @@ use Rattle.std.proofs.lemmas.Simd.{map-map}
 use Rattle.std.specs.Borrow.{Bor}
 use Rattle.std.specs.Str.{IsUtf8, chars}
 use Rattle.daachorse_model.specs.Dictionary.{registrations_of}
-use Rattle.daachorse_charwise.specs.Building.{registrations_of_strings}
+use Rattle.daachorse.specs.charwise.Building.{registrations_of_strings}
 use Rattle.daachorse_patterns.proofs.Keys.{all-push}
 use Rattle.daachorse_c.specs.declared.unit.Unit.TheVariants.{Character}
 use Rattle.daachorse_c.specs.Patterns.{AreTexts, texts_in}

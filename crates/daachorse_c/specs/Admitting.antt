@@ -11,11 +11,11 @@ use Rattle.daachorse_c.specs.Units.{IsWrongIn}
 module _ {N : Type 0} where
   -- so many bytes and matches could not be counted
   abbrev pub IsTooLong : (ℕ → ℕ) → Stream N → ℕ → ℕ → Type 0
-  IsTooLong width s bytes room = (2 ^ 64 ≤ size width (read_by s.standing) + length s.begun + bytes) ⊎ (2 ^ 64 ≤ s.told + room)
+  IsTooLong width s bytes room = (2 ^ 64 ≤ size width (read_by s.standing) + length s.partial + bytes) ⊎ (2 ^ 64 ≤ s.reported + room)
 
-  -- no unit begins with the first of the bytes, behind those of one that has begun
+  -- no unit begins with the first of the bytes, after those of one that is partial
   abbrev pub IsWrongAtFirst : Unit → Stream N → List ℕ → Type 0
-  IsWrongAtFirst which s bytes = (0 < length bytes) × IsWrongIn which (s.begun ++ slice_index bytes 0 ∷ [])
+  IsWrongAtFirst which s bytes = (0 < length bytes) × IsWrongIn which (s.partial ++ slice_index bytes 0 ∷ [])
 
   -- why a stream consumes nothing
   abbrev pub IsNotAdmitted : Unit → (ℕ → ℕ) → Stream N → List ℕ → ℕ → Refusal → Type 0

@@ -4,9 +4,9 @@ use Rattle.daachorse_model.specs.declared.MatchKind.{MatchKind}
 use Rattle.daachorse_model.specs.Dictionary.{Dictionary}
 use Rattle.daachorse_model.specs.Folding.{as_read}
 use Rattle.daachorse_bytewise_states.specs.StateRows.{HasNoRoom as HasNoRoomInBytes}
-use Rattle.daachorse_bytewise.specs.Automata.{Automaton as Bytewise, dictionary_of as dictionary_in_bytes, states_of as states_in_bytes}
+use Rattle.daachorse.specs.bytewise.Automata.{Automaton as Bytewise, dictionary_of as dictionary_in_bytes, states_of as states_in_bytes}
 use Rattle.daachorse_charwise_states.specs.StateRows.{HasNoRoom as HasNoRoomInCharacters}
-use Rattle.daachorse_charwise.specs.Automata.{Automaton as Charwise, dictionary_of as dictionary_in_characters, states_of as states_in_characters}
+use Rattle.daachorse.specs.charwise.Automata.{Automaton as Charwise, dictionary_of as dictionary_in_characters, states_of as states_in_characters}
 use Rattle.daachorse_c.specs.declared.unit.Unit.{Unit}
 use Rattle.daachorse_c.specs.declared.unit.Unit.TheVariants.{Byte, Character}
 use Rattle.daachorse_c.specs.Units.{IsTextIn, units_in, width_in}

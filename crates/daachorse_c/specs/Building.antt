@@ -4,8 +4,8 @@ use Rattle.daachorse_core.specs.declared.errors.DaachorseError.{DaachorseError}
 use Rattle.daachorse_model.specs.declared.MatchKind.{MatchKind}
 use Rattle.daachorse_model.specs.Kinds.{byte_of_kind}
 use Rattle.daachorse_model.specs.Folding.{all_as_read, texts_as_read}
-use Rattle.daachorse_bytewise.specs.Building.{IsBuiltWith as IsBuiltOverBytes, IsRefusalOf as IsRefusalOfBytes, kept_filter as filter_of_bytes}
-use Rattle.daachorse_charwise.specs.Building.{IsBuiltWith as IsBuiltOverCharacters, IsRefusalOf as IsRefusalOfCharacters, kept_filter as filter_of_characters}
+use Rattle.daachorse.specs.bytewise.Building.{IsBuiltWith as IsBuiltOverBytes, IsRefusalOf as IsRefusalOfBytes, kept_filter as filter_of_bytes}
+use Rattle.daachorse.specs.charwise.Building.{IsBuiltWith as IsBuiltOverCharacters, IsRefusalOf as IsRefusalOfCharacters, kept_filter as filter_of_characters}
 use Rattle.daachorse_c.specs.declared.building.Settings.{Settings}
 use Rattle.daachorse_c.specs.declared.refusal.Refusal.{Refusal}
 use Rattle.daachorse_c.specs.declared.refusal.Refusal.TheVariants.{InvalidUtf8, OutOfMemory, UnknownKind, WrongPatterns}

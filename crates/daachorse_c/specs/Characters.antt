@@ -21,13 +21,13 @@ module _ (text : List ℕ) (bytes characters origin : ℕ) where
   place_in_text place = min (place + origin) (2 ^ 64 - 1) - bytes
 
   -- how many characters begin before a place
-  abbrev pub begun_before : ℕ → ℕ
-  begun_before place = min (characters + characters_before text (place_in_text place)) (2 ^ 64 - 1)
+  abbrev pub partial_before : ℕ → ℕ
+  partial_before place = min (characters + characters_before text (place_in_text place)) (2 ^ 64 - 1)
 
   -- how many characters end there or before
   abbrev pub ended_at : ℕ → ℕ
-  ended_at place = begun_before place - inside_by text (place_in_text place)
+  ended_at place = partial_before place - inside_by text (place_in_text place)
 
   -- the match with its places in characters
   abbrev pub in_characters : CMatch → CMatch
-  in_characters m = record { start = begun_before m.start; end = ended_at m.end; value = m.value }
+  in_characters m = record { start = partial_before m.start; end = ended_at m.end; value = m.value }

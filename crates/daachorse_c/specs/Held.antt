@@ -1,7 +1,7 @@
 -- What a handle keeps: an automaton, whether it has rows, and a stream that goes on in it, if there is one.
 use Rattle.std.specs.Prelude.{ℕ, Bool, true, false, List, Option}
-use Rattle.daachorse_bytewise.specs.Automata.{Automaton as OverBytes}
-use Rattle.daachorse_charwise.specs.Automata.{Automaton as OverCharacters}
+use Rattle.daachorse.specs.bytewise.Automata.{Automaton as OverBytes}
+use Rattle.daachorse.specs.charwise.Automata.{Automaton as OverCharacters}
 use Rattle.daachorse_c.specs.declared.bytewise.Bytewise.{Bytewise}
 use Rattle.daachorse_c.specs.declared.bytewise.Bytewise.TheVariants.{Plain, Rowed}
 use Rattle.daachorse_c.specs.declared.charwise.Charwise.{Charwise}

@@ -16,7 +16,7 @@ pub mod Searches
 pub mod Spelling
 pub mod Streaming
 pub mod Streams
-pub mod Tellers
+pub mod OverlappingStreams
 pub mod Through
 pub mod Units
 pub mod Writes

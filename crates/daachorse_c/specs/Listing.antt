@@ -23,7 +23,7 @@ arrays bytes ends values = record { bytes = bytes; ends = ends; values = values 
 abbrev pub arrays_of : Listing → Arrays
 arrays_of l = arrays l.bytes.items l.ends.items l.values.items
 
--- a pattern and its value behind the others
+-- a pattern and its value after the others
 abbrev pub one_more : Arrays → List ℕ → ℕ → Arrays
 one_more p pattern value = arrays (p.bytes ++ pattern) (p.ends ++ length (p.bytes ++ pattern) ∷ []) (p.values ++ value ∷ [])
 
@@ -32,7 +32,7 @@ abbrev pub last_pattern_end : ℕ → List ℕ → ℕ
 last_pattern_end start [] = start
 last_pattern_end start (e ∷ es) = last_pattern_end e es
 
--- they are patterns as a build takes them, and no byte stands behind the last
+-- they are patterns as a build takes them, and no byte stands after the last
 pub record AreWhole (p : Arrays) : Type 0 where
   pub right : ArePatterns p.bytes p.ends p.values
   pub whole : last_pattern_end 0 p.ends ≡ length p.bytes
@@ -74,7 +74,7 @@ pub record IsListingWithin (a : Automaton) (room : Room) (l : Listing) : Type 0 
   pub kept : Fits l room → arrays_of l ≡ listed
   pub no_more : IsKeptWithin l room
 
--- they stand at the beginning of the arrays, and behind them what was there
+-- they stand at the beginning of the arrays, and after them what was there
 pub record StandInFront (p old new : Arrays) : Type 0 where
   pub bytes : StandsInFront p.bytes old.bytes new.bytes
   pub ends : StandsInFront p.ends old.ends new.ends
@@ -84,19 +84,19 @@ pub record StandInFront (p old new : Arrays) : Type 0 where
 abbrev pub LackRoom : Arrays → Arrays → Type 0
 LackRoom p room = (length room.bytes < length p.bytes) ⊎ (length room.ends < length p.ends) ⊎ (length room.values < length p.values)
 
--- the automaton's patterns stand at the beginning of the arrays, and are told to be so many bytes and so many patterns
+-- the automaton's patterns stand at the beginning of the arrays, and are reported to be so many bytes and so many patterns
 abbrev pub HasListed : Automaton → Arrays → Arrays → ℕ → ℕ → Type 0
 HasListed a old new size count = (p : Arrays) × AreListedIn a p size count × StandInFront p old new
 
--- no number is told
-abbrev pub TellsNone : ℕ → ℕ → Type 0
-TellsNone size count = (size ≡ 0) × (count ≡ 0)
+-- no number is reported
+abbrev pub ReportsNone : ℕ → ℕ → Type 0
+ReportsNone size count = (size ≡ 0) × (count ≡ 0)
 
--- why an automaton's patterns are not written to these arrays, and what is told then
+-- why an automaton's patterns are not written to these arrays, and what is reported then
 abbrev pub IsNotListed : Automaton → Arrays → ℕ → ℕ → Refusal → Type 0
 IsNotListed a room size count r =
-    ((r ≡ OutOfMemory) × TellsNone size count) ⊎ ((r ≡ NoRoom) × ((p : Arrays) × AreListedIn a p size count × LackRoom p room))
+    ((r ≡ OutOfMemory) × ReportsNone size count) ⊎ ((r ≡ NoRoom) × ((p : Arrays) × AreListedIn a p size count × LackRoom p room))
 
--- why a call to list is refused, and what is told then
+-- why a call to list is refused, and what is reported then
 abbrev pub IsListCause : Option Held → Arrays → ℕ → ℕ → Refusal → Type 0
-IsListCause held room size count r = (IsUseCause held r × TellsNone size count) ⊎ IsSomeAnd held (λ a. IsNotListed a.searches room size count r)
+IsListCause held room size count r = (IsUseCause held r × ReportsNone size count) ⊎ IsSomeAnd held (λ a. IsNotListed a.searches room size count r)

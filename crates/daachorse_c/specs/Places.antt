@@ -37,7 +37,7 @@ pub record IsPlaceIn (a : Automaton) (haystack : List ℕ) (at : ℕ) : Type 0 w
 abbrev pub afresh : Place → Place
 afresh p = record p { after = false }
 
--- The place is behind the match, in a haystack of so many bytes: at the end of a nonempty match, and one unit, of `step` bytes, behind an empty one, where the haystack has one.
+-- The place is after the match, in a haystack of so many bytes: at the end of a nonempty match, and one unit, of `step` bytes, after an empty one, where the haystack has one.
 pub record StandsBehind (m : Match ℕ) (step size : ℕ) (p : Place) : Type 0 where
   pub nonempty : m.start < m.end → p ≡ record { at = m.end; after = true; over = false }
   pub empty : m.end ≤ m.start → m.end < size → p ≡ record { at = m.end + step; after = false; over = false }
@@ -49,13 +49,13 @@ module _ (a : Automaton) (haystack : List ℕ) where
   abbrev pub IsStep : ℕ → ℕ → Type 0
   IsStep at step = (u : ℕ) (rest : List ℕ) → units_in (unit_of a) (drop at haystack) ≡ u ∷ rest → step ≡ width_of a u
 
-  -- the place is behind the match: at its end, or one unit behind an empty one
+  -- the place is after the match: at its end, or one unit after an empty one
   pub record IsBehind (m : Match ℕ) (q : Place) : Type 0 where
     pub step : ℕ
     pub one : IsStep m.end step
     pub stands : StandsBehind m step (length haystack) q
 
-  -- Where a search from p stands after so many matches: it is over if there was room for more, and else behind the last, or where it was.
+  -- Where a search from p stands after so many matches: it is over if there was room for more, and else after the last, or where it was.
   pub record StandsAfter (p q : Place) (room written : ℕ) : Type 0 where
     pub within : IsPlaceIn a haystack q.at
     pub over : written < room → q.over ≡ true
@@ -63,7 +63,7 @@ module _ (a : Automaton) (haystack : List ℕ) where
     pub last : (n : ℕ) → written ≡ n + 1 → written ≡ room
         → (m : Match ℕ) × (drop n (left_of a haystack p) ≡ m ∷ left_of a haystack q) × IsBehind m q
 
-  -- the first of the matches that were left were written, and the search goes on behind these
+  -- the first of the matches that were left were written, and the search goes on after these
   pub record GoesOn (p q : Place) (old new : List CMatch) (written : ℕ) : Type 0 where
     pub reads : Reads a haystack
     pub writes : Writes (left_of a haystack p) old new written
@@ -74,7 +74,7 @@ module _ (a : Automaton) (haystack : List ℕ) where
 abbrev pub IsStuckCause : List ℕ → Automaton → Place → Refusal → Type 0
 IsStuckCause haystack a p r = ((r ≡ WrongPlace) × ¬ IsPlaceIn a haystack p.at) ⊎ IsUnreadCause haystack a r
 
--- What a call does for a search that goes on: it leaves the handle as it was, writes the first matches that are left and moves the place behind them, or says why it is refused and changes nothing.
+-- What a call does for a search that goes on: it leaves the handle as it was, writes the first matches that are left and moves the place after them, or says why it is refused and changes nothing.
 pub record IsGoingOn (haystack : List ℕ) (old new : Option Held) (p q : Place) (out_old out_new : List CMatch) (written answer : ℕ) : Type 0 where
   pub kept : new ≡ old
   pub found : answer ≡ 0 → IsSomeAnd old (λ a. GoesOn a.searches haystack p q out_old out_new written)

@@ -31,7 +31,7 @@ use Rattle.daachorse_c.specs.Patterns.{AreEnds}
 use Rattle.daachorse_c.specs.Searches.{IsUnreadCause, IsUseCause}
 use Rattle.daachorse_c.specs.Written.{StandsInFront}
 
--- As much of the text as there is room for stands in front, and behind it what was there. So long is the text, as far as that can be
+-- As much of the text as there is room for stands in front, and after it what was there. So long is the text, as far as that can be
 -- counted.
 pub record IsCut (text old new : List ℕ) (size : ℕ) : Type 0 where
   pub front : new ≡ take (length old) text ++ drop (length text) old

@@ -11,7 +11,7 @@ use Rattle.daachorse_c.specs.Automata.{kind_of, unit_of, width_of}
 use Rattle.daachorse_c.specs.Held.{Held}
 use Rattle.daachorse_c.specs.Refusals.{IsDoneOr}
 use Rattle.daachorse_c.specs.Searches.{IsUnknownSearch, IsUseCause, ServesKind, search_of, stream_number}
-use Rattle.daachorse_c.specs.Streams.{IsAtBeginning, Tells}
+use Rattle.daachorse_c.specs.Streams.{IsAtBeginning, Reports}
 
 -- the automaton is as before, and a stream of the search with this number begins
 pub record HasBegun (number : ℕ) (old new : Held) : Type 0 where
@@ -35,11 +35,11 @@ IsNotBegun number a r =
 abbrev pub IsBeginCause : ℕ → Option Held → Refusal → Type 0
 IsBeginCause number held r = IsUseCause held r ⊎ IsSomeAnd held (λ a. IsNotBegun number a r)
 
--- the automaton is as before, and its stream has told what comes next
+-- the automaton is as before, and its stream has reported what comes next
 pub record HasConsumed (bytes : List ℕ) (old new : Held) (out_old out_new : List CMatch) (done : Done) : Type 0 where
   pub kept : new.searches ≡ old.searches
   pub rows : new.rows ≡ old.rows
-  pub tells : IsSomeAnd old.stream (λ s. IsSomeAnd new.stream (λ t. Tells old.searches bytes s t out_old out_new done))
+  pub reports : IsSomeAnd old.stream (λ s. IsSomeAnd new.stream (λ t. Reports old.searches bytes s t out_old out_new done))
 
 -- why there is no stream to go on
 abbrev pub IsStreamless : Held → Refusal → Type 0
@@ -55,7 +55,7 @@ IsConsumeCause held bytes room r = IsUseCause held r ⊎ IsSomeAnd held (λ a. I
 
 -- What a call to consume bytes does: the stream goes on, or the answer says why it is refused and nothing changes.
 pub record IsConsumption (bytes : List ℕ) (old new : Option Held) (out_old out_new : List CMatch) (taken written answer : ℕ) : Type 0 where
-  pub told : answer ≡ 0 → IsSomeAnd old (λ a. IsSomeAnd new (λ b. HasConsumed bytes a b out_old out_new (record { taken = taken; written = written })))
+  pub reported : answer ≡ 0 → IsSomeAnd old (λ a. IsSomeAnd new (λ b. HasConsumed bytes a b out_old out_new (record { taken = taken; written = written })))
   pub refused : IsDoneOr (IsConsumeCause old bytes (length out_old)) answer
   pub unchanged : answer ≢ 0 → (new ≡ old) × (out_new ≡ out_old) × (taken ≡ 0) × (written ≡ 0)
 
@@ -67,7 +67,7 @@ pub record HasEnded (old new : Held) : Type 0 where
 
 -- why an automaton's stream does not end
 abbrev pub IsUnendedCause : Held → Refusal → Type 0
-IsUnendedCause a r = IsStreamless a r ⊎ IsSomeAnd a.stream (λ s. (r ≡ InvalidUtf8) × (s.begun ≢ []))
+IsUnendedCause a r = IsStreamless a r ⊎ IsSomeAnd a.stream (λ s. (r ≡ InvalidUtf8) × (s.partial ≢ []))
 
 -- why a call to end a stream is refused
 abbrev pub IsEndCause : Option Held → Refusal → Type 0

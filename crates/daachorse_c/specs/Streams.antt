@@ -1,4 +1,4 @@
--- A stream: a haystack that comes in pieces, the search that goes through it, where this stands, and what it has told.
+-- A stream: a haystack that comes in pieces, the search that goes through it, where this stands, and what it has reported.
 use Rattle.std.specs.Prelude.{◌≡◌, ◌⊎◌, ℕ, ⊤, ◌+◌, ◌<◌, ◌≤◌, Bool, true, false, List, [], ◌∷◌, ◌++◌, cond, take, drop, length, option_to_list, slice_index}
 use Rattle.std.specs.declared.alloc.Global.{Global}
 use Rattle.daachorse_core.specs.Seen.{units}
@@ -31,7 +31,7 @@ use Rattle.daachorse_c.specs.declared.unit.Unit.{Unit}
 use Rattle.daachorse_c.specs.declared.unit.Unit.TheVariants.{Byte, Character}
 use Rattle.daachorse_c.specs.Automata.{Automaton, Bytes, Characters, dictionary_of, folds_of, unit_of, width_of}
 use Rattle.daachorse_c.specs.Searches.{ServesKind, found_by, search_of}
-use Rattle.daachorse_c.specs.Tellers.{IsTelling, Telling, left_from}
+use Rattle.daachorse_c.specs.OverlappingStreams.{IsReporting, Reporting, left_from}
 use Rattle.daachorse_c.specs.Units.{IsOpenIn, IsWrongIn, spelled_in}
 use Rattle.daachorse_c.specs.Writes.{WritesAll}
 
@@ -66,30 +66,30 @@ all_or_longest longest_only = cond longest_only NoSuffix Overlapping
 
 -- ---- steppers
 
--- n more matches were told, behind those before them, and written
-pub record TellsMore (has_told : List (Match ℕ) → Type 0) (before : List (Match ℕ)) (old new : List CMatch) (n : ℕ) : Type 0 where
+-- n more matches were reported, after those before them, and written
+pub record ReportsMore (has_reported : List (Match ℕ) → Type 0) (before : List (Match ℕ)) (old new : List CMatch) (n : ℕ) : Type 0 where
   pub more : List (Match ℕ)
-  pub told : has_told (before ++ more)
+  pub reported : has_reported (before ++ more)
   pub writes : WritesAll more old new n
 
 module _ {S : Type 0} (width : ℕ → ℕ) (standard : S → AutomatonView ℕ) where
-  -- what ends with the units and was not told
+  -- what ends with the units and was not reported
   abbrev pub left_to : {T U : Type 0} → Finder S T U → List (Match ℕ)
-  left_to f = cond f.told [] (option_to_list (standard_after width (standard f.stepper.automaton).content f.stepper.read))
+  left_to f = cond f.reported [] (option_to_list (standard_after width (standard f.stepper.automaton).content f.stepper.read))
 
-  -- these were told of the matches that do not overlap
-  abbrev pub HasToldOne : {T U : Type 0} → Finder S T U → List (Match ℕ) → Type 0
-  HasToldOne f told = found_in width Find (standard f.stepper.automaton).content f.stepper.read ≡ told ++ left_to f
+  -- these were reported of the matches that do not overlap
+  abbrev pub HasReportedOne : {T U : Type 0} → Finder S T U → List (Match ℕ) → Type 0
+  HasReportedOne f reported = found_in width Find (standard f.stepper.automaton).content f.stepper.read ≡ reported ++ left_to f
 
-  -- these were told of all matches, or of the longest
-  abbrev pub HasToldAll : Telling S → List (Match ℕ) → Type 0
-  HasToldAll s told = found_in width (all_or_longest s.longest_only) (standard s.automaton).content s.read ≡ told ++ s.left
+  -- these were reported of all matches, or of the longest
+  abbrev pub HasReportedAll : Reporting S → List (Match ℕ) → Type 0
+  HasReportedAll s reported = found_in width (all_or_longest s.longest_only) (standard s.automaton).content s.read ≡ reported ++ s.left
 
 -- these were given of the leftmost matches, and are certain
-pub record HasGiven {L : Type 0} (width : ℕ → ℕ) (leftmost : L → AutomatonView ℕ) (s : LeftmostStreamed ℕ L) (told : List (Match ℕ)) : Type 0 where
-  pub given : s.given ≡ told
-  pub certain : s.ended ≡ false → BeginEachFound width Leftmost (leftmost s.automaton).content s.read told
-  pub first : (rest : List (Match ℕ)) × (found_in width Leftmost (leftmost s.automaton).content s.read ≡ told ++ rest)
+pub record HasGiven {L : Type 0} (width : ℕ → ℕ) (leftmost : L → AutomatonView ℕ) (s : LeftmostStreamed ℕ L) (reported : List (Match ℕ)) : Type 0 where
+  pub given : s.given ≡ reported
+  pub certain : s.ended ≡ false → BeginEachFound width Leftmost (leftmost s.automaton).content s.read reported
+  pub first : (rest : List (Match ℕ)) × (found_in width Leftmost (leftmost s.automaton).content s.read ≡ reported ++ rest)
 
 module _ {S L T U V W : Type 0} where
   abbrev pub kind_in : Stepper S L T U V W → StreamKind
@@ -127,130 +127,130 @@ module _ {S L T U V W : Type 0} (width : ℕ → ℕ) (standard : S → Automato
   dictionary_in (FindingAll s) = (standard s.automaton).content
   dictionary_in (FindingLeftmost s) = (leftmost s.automaton).content
 
-  -- these were told of what the search finds
-  abbrev pub HasTold : Stepper S L T U V W → List (Match ℕ) → Type 0
-  HasTold (Finding f) told = HasToldOne width standard f told
-  HasTold (FindingAll s) told = HasToldAll width standard s told
-  HasTold (FindingLeftmost s) told = HasGiven width leftmost s told
+  -- these were reported of what the search finds
+  abbrev pub HasReported : Stepper S L T U V W → List (Match ℕ) → Type 0
+  HasReported (Finding f) reported = HasReportedOne width standard f reported
+  HasReported (FindingAll s) reported = HasReportedAll width standard s reported
+  HasReported (FindingLeftmost s) reported = HasGiven width leftmost s reported
 
-  -- nothing is left to tell before more units come
+  -- nothing is left to report before more units come
   abbrev pub IsQuiet : Stepper S L T U V W → Type 0
   IsQuiet (Finding f) = left_to width standard f ≡ []
   IsQuiet (FindingAll s) = s.left ≡ []
   IsQuiet (FindingLeftmost s) = IsSettled width (leftmost s.automaton).content s s
 
-  -- it searches in a and b, has consumed nothing and told nothing
+  -- it searches in a and b, has consumed nothing and reported nothing
   pub record BeginsStepping (a : S) (b : L) (folded : Bool) (kind : StreamKind) (s : Stepper S L T U V W) : Type 0 where
     pub over : IsOver a b s
     pub folds : folds_in s ≡ folded
     pub search : kind_in s ≡ kind
     pub read : read_in s ≡ []
     pub unended : KnowsEnd false s
-    pub told : HasTold s []
+    pub reported : HasReported s []
 
 -- ---- where they stand
 
 module _ {N : Type 0} where
   abbrev pub kind_by : Standing N → StreamKind
-  kind_by (AtFind s told) = Find
+  kind_by (AtFind s reported) = Find
   kind_by (AtOverlapping s) = all_or_longest s.longest_only
   kind_by (AtLeftmost s) = Leftmost
 
   abbrev pub read_by : Standing N → List ℕ
-  read_by (AtFind s told) = units s.walk.seen
+  read_by (AtFind s reported) = units s.walk.seen
   read_by (AtOverlapping s) = units s.walk.seen
   read_by (AtLeftmost s) = s.read
 
-  -- a leftmost search has not been told that the haystack has ended
+  -- a leftmost search has not been reported that the haystack has ended
   abbrev pub IsUnended : Standing N → Type 0
-  IsUnended (AtFind s told) = ⊤
+  IsUnended (AtFind s reported) = ⊤
   IsUnended (AtOverlapping s) = ⊤
   IsUnended (AtLeftmost s) = s.ended ≡ false
 
   -- it has consumed so many bytes
   abbrev pub IsPlaced : (ℕ → ℕ) → Standing N → Type 0
-  IsPlaced width (AtFind s told) = s.place ≡ size width (units s.walk.seen)
+  IsPlaced width (AtFind s reported) = s.place ≡ size width (units s.walk.seen)
   IsPlaced width (AtOverlapping s) = s.place ≡ size width (units s.walk.seen)
   IsPlaced width (AtLeftmost s) = s.place ≡ size width s.read
 
 module _ {S L N : Type 0} (width : ℕ → ℕ) (standard : S → AutomatonView ℕ) (leftmost : L → AutomatonView ℕ) (unit : N → ℕ) (a : S) (b : L) where
   -- a stepper over a and b stands so
   abbrev pub StandsIn : Standing N → Type 0
-  StandsIn (AtFind s told) = IsFindStanding width standard a s
-  StandsIn (AtOverlapping s) = IsTelling width standard a s
+  StandsIn (AtFind s reported) = IsFindStanding width standard a s
+  StandsIn (AtOverlapping s) = IsReporting width standard a s
   StandsIn (AtLeftmost s) = IsLeftmostStanding width leftmost b unit s
 
 module _ {S L N : Type 0} (width : ℕ → ℕ) (standard : S → AutomatonView ℕ) (leftmost : L → AutomatonView ℕ) (a : S) (b : L) where
-  -- it has told these
-  abbrev pub HasToldBy : Bool → Standing N → List (Match ℕ) → Type 0
-  HasToldBy folds (AtFind s last) told =
-      found_in width Find (standard a).content (units s.walk.seen) ≡ told ++ cond last [] (option_to_list (standard_after width (standard a).content (units s.walk.seen)))
-  HasToldBy folds (AtOverlapping s) told = found_in width (all_or_longest s.longest_only) (standard a).content (units s.walk.seen) ≡ told ++ left_from width standard a s
-  HasToldBy folds (AtLeftmost s) told = HasGiven width leftmost (streamed_by width leftmost b folds s) told
+  -- it has reported these
+  abbrev pub HasReportedBy : Bool → Standing N → List (Match ℕ) → Type 0
+  HasReportedBy folds (AtFind s last) reported =
+      found_in width Find (standard a).content (units s.walk.seen) ≡ reported ++ cond last [] (option_to_list (standard_after width (standard a).content (units s.walk.seen)))
+  HasReportedBy folds (AtOverlapping s) reported = found_in width (all_or_longest s.longest_only) (standard a).content (units s.walk.seen) ≡ reported ++ left_from width standard a s
+  HasReportedBy folds (AtLeftmost s) reported = HasGiven width leftmost (streamed_by width leftmost b folds s) reported
 
 -- ---- streams
 
--- the matches that a stream has told, for a dictionary K
-abbrev pub told_in : (ℕ → ℕ) → Dictionary ℕ → Stream ℕ → List (Match ℕ)
-told_in width K s = take s.told (found_in width (kind_by s.standing) K (read_by s.standing))
+-- the matches that a stream has reported, for a dictionary K
+abbrev pub reported_in : (ℕ → ℕ) → Dictionary ℕ → Stream ℕ → List (Match ℕ)
+reported_in width K s = take s.reported (found_in width (kind_by s.standing) K (read_by s.standing))
 
--- a stream goes on over states p, and has told the first of the matches
+-- a stream goes on over states p, and has reported the first of the matches
 pub record GoesOnOver {P : Type 0} (which : Unit) (width : ℕ → ℕ) (sees : P → AutomatonView ℕ) (p : P) (kind : MatchKind) (folds : Bool) (s : Stream ℕ) : Type 0 where
   pub serves : ServesKind (search_of (kind_by s.standing)) kind
   pub marks : AreMarksFor width (kind_by s.standing) (sees p) s.marks
   pub stands : StandsIn width sees sees (λ unit. unit) p p s.standing
   pub unended : s.ended ≡ false → IsUnended s.standing
-  pub told : HasToldBy width sees sees p p folds s.standing (told_in width (sees p).content s)
-  pub counted : length (told_in width (sees p).content s) ≡ s.told
-  pub begun : IsOpenIn which s.begun
-  pub whole : s.ended ≡ true → s.begun ≡ []
+  pub reported : HasReportedBy width sees sees p p folds s.standing (reported_in width (sees p).content s)
+  pub counted : length (reported_in width (sees p).content s) ≡ s.reported
+  pub partial : IsOpenIn which s.partial
+  pub whole : s.ended ≡ true → s.partial ≡ []
 
 -- a stream goes on in an automaton
 abbrev pub GoesOnIn : Automaton → Stream ℕ → Type 0
 GoesOnIn (Bytes a) s = GoesOnOver Byte byte_width sees_bytes a.parts a.parts.kind a.folds s
 GoesOnIn (Characters a) s = GoesOnOver Character char_width sees_characters a.parts a.parts.kind a.folds s
 
--- it has consumed nothing, and told nothing
+-- it has consumed nothing, and reported nothing
 pub record IsAtBeginning (kind : StreamKind) (s : Stream ℕ) : Type 0 where
   pub search : kind_by s.standing ≡ kind
   pub read : read_by s.standing ≡ []
-  pub begun : s.begun ≡ []
-  pub told : s.told ≡ 0
+  pub partial : s.partial ≡ []
+  pub reported : s.reported ≡ 0
   pub unended : s.ended ≡ false
 
--- behind the bytes of a unit that had begun, the bytes spell these units, and then one that begins
-pub record Spells (which : Unit) (begun bytes : List ℕ) (units later : List ℕ) : Type 0 where
-  pub splits : begun ++ bytes ≡ spelled_in which units ++ later
+-- after the bytes of a unit that was partial, the bytes spell these units, and then one that begins
+pub record Spells (which : Unit) (partial bytes : List ℕ) (units later : List ℕ) : Type 0 where
+  pub splits : partial ++ bytes ≡ spelled_in which units ++ later
   pub begins : IsOpenIn which later
 
--- The byte behind the first n was needed: before it all that is certain was told, and there was room for more.
-pub record WasNeeded (which : Unit) (width : ℕ → ℕ) (kind : StreamKind) (K : Dictionary ℕ) (folds : Bool) (begun bytes read : List ℕ) (room n : ℕ) (told : List (Match ℕ)) : Type 0 where
+-- The byte after the first n was needed: before it all that is certain was reported, and there was room for more.
+pub record WasNeeded (which : Unit) (width : ℕ → ℕ) (kind : StreamKind) (K : Dictionary ℕ) (folds : Bool) (partial bytes read : List ℕ) (room n : ℕ) (reported : List (Match ℕ)) : Type 0 where
   pub some : List (Match ℕ)
   pub rest : List (Match ℕ)
-  pub first : told ≡ some ++ rest
+  pub first : reported ≡ some ++ rest
   pub units : List ℕ
   pub later : List ℕ
-  pub spells : Spells which begun (take n bytes) units later
+  pub spells : Spells which partial (take n bytes) units later
   pub certain : AreAllCertain width kind K (read ++ as_read folds units) some
   pub fewer : length some < room
 
--- From s to t some of the bytes were consumed, none that was not needed, and the next of the matches in what was read were written, which are certain. Unless there was no more room, all bytes were consumed that begin a unit, and all was told that is certain so far, or after the end all that there is.
-pub record TellsBy (which : Unit) (width : ℕ → ℕ) (K : Dictionary ℕ) (folds : Bool) (bytes : List ℕ) (s t : Stream ℕ) (old new : List CMatch) (done : Done) : Type 0 where
+-- From s to t some of the bytes were consumed, none that was not needed, and the next of the matches in what was read were written, which are certain. Unless there was no more room, all bytes were consumed that begin a unit, and all was reported that is certain so far, or after the end all that there is.
+pub record ReportsBy (which : Unit) (width : ℕ → ℕ) (K : Dictionary ℕ) (folds : Bool) (bytes : List ℕ) (s t : Stream ℕ) (old new : List CMatch) (done : Done) : Type 0 where
   pub search : kind_by t.standing ≡ kind_by s.standing
   pub ended : t.ended ≡ s.ended
   pub within : done.taken ≤ length bytes
   pub units : List ℕ
-  pub spells : Spells which s.begun (take done.taken bytes) units t.begun
+  pub spells : Spells which s.partial (take done.taken bytes) units t.partial
   pub read : read_by t.standing ≡ read_by s.standing ++ as_read folds units
-  pub counted : t.told ≡ s.told + done.written
-  pub told : take s.told (told_in width K t) ≡ told_in width K s
-  pub writes : WritesAll (drop s.told (told_in width K t)) old new done.written
-  pub needed : (n : ℕ) → done.taken ≡ n + 1 → WasNeeded which width (kind_by s.standing) K folds s.begun bytes (read_by s.standing) (s.told + length old) n (told_in width K t)
-  pub full : done.taken < length bytes → (done.written ≡ length old) ⊎ IsWrongIn which (t.begun ++ slice_index bytes done.taken ∷ [])
-  pub certain : t.ended ≡ false → BeginEachFound width (kind_by t.standing) K (read_by t.standing) (told_in width K t)
-  pub so_far : done.written < length old → t.ended ≡ false → AreAllCertain width (kind_by t.standing) K (read_by t.standing) (told_in width K t)
-  pub whole : done.written < length old → t.ended ≡ true → told_in width K t ≡ found_in width (kind_by t.standing) K (read_by t.standing)
+  pub counted : t.reported ≡ s.reported + done.written
+  pub reported : take s.reported (reported_in width K t) ≡ reported_in width K s
+  pub writes : WritesAll (drop s.reported (reported_in width K t)) old new done.written
+  pub needed : (n : ℕ) → done.taken ≡ n + 1 → WasNeeded which width (kind_by s.standing) K folds s.partial bytes (read_by s.standing) (s.reported + length old) n (reported_in width K t)
+  pub full : done.taken < length bytes → (done.written ≡ length old) ⊎ IsWrongIn which (t.partial ++ slice_index bytes done.taken ∷ [])
+  pub certain : t.ended ≡ false → BeginEachFound width (kind_by t.standing) K (read_by t.standing) (reported_in width K t)
+  pub so_far : done.written < length old → t.ended ≡ false → AreAllCertain width (kind_by t.standing) K (read_by t.standing) (reported_in width K t)
+  pub whole : done.written < length old → t.ended ≡ true → reported_in width K t ≡ found_in width (kind_by t.standing) K (read_by t.standing)
 
 -- the same in an automaton, as it reads the bytes
-abbrev pub Tells : Automaton → List ℕ → Stream ℕ → Stream ℕ → List CMatch → List CMatch → Done → Type 0
-Tells a = TellsBy (unit_of a) (width_of a) (dictionary_of a) (folds_of a)
+abbrev pub Reports : Automaton → List ℕ → Stream ℕ → Stream ℕ → List CMatch → List CMatch → Done → Type 0
+Reports a = ReportsBy (unit_of a) (width_of a) (dictionary_of a) (folds_of a)

@@ -32,13 +32,13 @@ abbrev pub spelled_in : Unit → List ℕ → List ℕ
 spelled_in Byte w = w
 spelled_in Character w = encode_utf8_all w
 
--- the bytes of a character that has begun: too few for it, and more may come
+-- the bytes of a partial character: too few for it, and more may come
 pub record IsOpenCharacter (bytes : List ℕ) : Type 0 where
   pub short : length bytes < 4
   pub none : (n : ℕ) → 0 < n → n ≤ length bytes → ¬ IsUtf8 (take n bytes)
   pub more : utf8_error_len bytes ≡ None
 
--- the bytes of a unit that has begun, if one has
+-- the bytes of a partial unit, if one has
 abbrev pub IsOpenIn : Unit → List ℕ → Type 0
 IsOpenIn Byte bytes = bytes ≡ []
 IsOpenIn Character bytes = IsOpenCharacter bytes
@@ -48,8 +48,8 @@ abbrev pub IsWrongIn : Unit → List ℕ → Type 0
 IsWrongIn Byte bytes = ⊥
 IsWrongIn Character bytes = ¬ IsUtf8 bytes × (utf8_error_len bytes ≢ None)
 
--- what comes of these bytes is a unit, or is kept as what has begun, or they are wrong
+-- what comes of these bytes is a unit, or is kept as what is partial, or they are wrong
 abbrev pub IsPushed : {U : Type 0} → Unit → (U → ℕ) → List ℕ → Pushed U → Type 0
 IsPushed which unit bytes (Whole u) = bytes ≡ spelled_in which (unit u ∷ [])
-IsPushed which unit bytes (Open begun) = (begun ≡ bytes) × IsOpenIn which bytes
+IsPushed which unit bytes (Open partial) = (partial ≡ bytes) × IsOpenIn which bytes
 IsPushed which unit bytes Wrong = IsWrongIn which bytes

@@ -2,10 +2,10 @@
 use Rattle.std.specs.Prelude.{◌≡◌, ◌⊎◌, ℕ, ◌+◌, ◌<◌, ◌≤◌, ◌^◌, List, [], ◌++◌, drop, length, Option, IsSomeAnd}
 use Rattle.std.specs.Int.{w32}
 use Rattle.daachorse_serializer.specs.Forms.{number_form, take_number}
-use Rattle.daachorse_bytewise.specs.ReadForms.{GivesAutomaton as GivesBytewise, GivesNoAutomaton as GivesNoBytewise}
-use Rattle.daachorse_bytewise.specs.WrittenForms.{BeginsWithAutomaton as BeginsWithBytewise, IsAutomaton as IsBytewise, without_depths as bytewise_alone, written_form as bytewise_form}
-use Rattle.daachorse_charwise.specs.ReadForms.{GivesAutomaton as GivesCharwise, GivesNoAutomaton as GivesNoCharwise}
-use Rattle.daachorse_charwise.specs.WrittenForms.{BeginsWithAutomaton as BeginsWithCharwise, IsAutomaton as IsCharwise, without_depths as charwise_alone, written_form as charwise_form}
+use Rattle.daachorse.specs.bytewise.ReadForms.{GivesAutomaton as GivesBytewise, GivesNoAutomaton as GivesNoBytewise}
+use Rattle.daachorse.specs.bytewise.WrittenForms.{BeginsWithAutomaton as BeginsWithBytewise, IsAutomaton as IsBytewise, without_depths as bytewise_alone, written_form as bytewise_form}
+use Rattle.daachorse.specs.charwise.ReadForms.{GivesAutomaton as GivesCharwise, GivesNoAutomaton as GivesNoCharwise}
+use Rattle.daachorse.specs.charwise.WrittenForms.{BeginsWithAutomaton as BeginsWithCharwise, IsAutomaton as IsCharwise, without_depths as charwise_alone, written_form as charwise_form}
 use Rattle.daachorse_c.specs.declared.refusal.Refusal.{Refusal}
 use Rattle.daachorse_c.specs.declared.refusal.Refusal.TheVariants.{OutOfMemory, InvalidAutomaton, NoRoom, UnknownOption}
 use Rattle.daachorse_c.specs.declared.unit.Unit.{Unit}
@@ -30,16 +30,16 @@ abbrev pub without_depths : Automaton → Automaton
 without_depths (Bytes a) = Bytes (bytewise_alone a)
 without_depths (Characters a) = Characters (charwise_alone a)
 
--- they stand at the beginning, and behind them what was there
+-- they stand at the beginning, and after them what was there
 pub record StandsInFront (items old new : List ℕ) : Type 0 where
   pub fits : length items ≤ length old
   pub copied : new ≡ items ++ drop (length items) old
 
--- why an automaton is not written to this room, and what `size` tells then
+-- why an automaton is not written to this room, and what `size` reports then
 abbrev pub IsNotWritten : Automaton → List ℕ → ℕ → Refusal → Type 0
 IsNotWritten a room size r = ((r ≡ OutOfMemory) × (size ≡ 0)) ⊎ ((r ≡ NoRoom) × (size ≡ length (form_of a)) × (length room < size))
 
--- why a call to write is refused, and what `size` tells then
+-- why a call to write is refused, and what `size` reports then
 abbrev pub IsWriteCause : Option Held → List ℕ → ℕ → Refusal → Type 0
 IsWriteCause held room size r = (IsUseCause held r × (size ≡ 0)) ⊎ IsSomeAnd held (λ a. IsNotWritten a.searches room size r)
 

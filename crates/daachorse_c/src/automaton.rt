@@ -140,8 +140,8 @@ impl Searcher {
     }
 
     /// Writes the matches from the place on that do not overlap, as many as there is room for, and
-    /// returns their number. Moves the place behind the last one. Fails if the automaton cannot
-    /// read the haystack, or if the place is behind it or inside a character.
+    /// returns their number. Moves the place after the last one. Fails if the automaton cannot
+    /// read the haystack, or if the place is after it or inside a character.
     pub(crate) fn find_on(
         &self,
         haystack: &[u8],

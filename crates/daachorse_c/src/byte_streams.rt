@@ -3,22 +3,22 @@
 ghost use Rattle.std.specs.Prelude.{◌≡◌, ◌+◌, ◌<◌, ◌^◌, Bool, List, ℕ, false, true, IfErr, IfOk, length};
 ghost use Rattle.daachorse_model.specs.declared.Match.{Match as ModelMatch};
 ghost use Rattle.daachorse_model.specs.Units.{byte_width, size};
-ghost use Rattle.daachorse_bytewise.specs.Automata.{kind_of, states_of};
+ghost use Rattle.daachorse.specs.bytewise.Automata.{kind_of, states_of};
 ghost use Rattle.daachorse_bytewise_states.specs.Valid.{sees};
 ghost use Rattle.daachorse_c.specs.declared.refusal.Refusal.TheVariants.{OutOfMemory};
 ghost use Rattle.daachorse_c.specs.declared.search.StreamKind.TheVariants.{Leftmost as Leftmosts};
 ghost use Rattle.daachorse_c.specs.Automata.{Bytes};
 ghost use Rattle.daachorse_c.specs.Searches.{ServesKind, search_of};
-ghost use Rattle.daachorse_c.specs.Streams.{AreMarksFor, BeginsStepping, GoesOnIn, HasTold, HasToldBy, IsAtBeginning, IsOver, IsUnended, KnowsEnd, StandsIn, Tells, folds_in, kind_by, kind_in, read_by, read_in};
+ghost use Rattle.daachorse_c.specs.Streams.{AreMarksFor, BeginsStepping, GoesOnIn, HasReported, HasReportedBy, IsAtBeginning, IsOver, IsUnended, KnowsEnd, StandsIn, Reports, folds_in, kind_by, kind_in, read_by, read_in};
 
-use crate::begun::Begun;
 use crate::feeding::Done;
 use crate::found::CMatch;
+use crate::overlapping_stream::OverlappingStream;
+use crate::partial::Partial;
 use crate::refusal::Refusal;
 use crate::search::StreamKind;
 use crate::stepper::{Finder, Standing, Stepper};
 use crate::stream::Stream;
-use crate::teller::Teller;
 use daachorse::bytewise::states::{Leftmost, Standard};
 use daachorse::{DoubleArrayAhoCorasick, StreamMarks};
 use std::alloc::Global;
@@ -42,9 +42,9 @@ pub(crate) fn begin_bytes(
     let stepper = stepper(alloc, automaton, &marks, kind)?;
     Ok(Stream {
         standing: stepper.into_standing(),
-        begun: Begun::none(),
+        partial: Partial::none(),
         marks,
-        told: 0,
+        reported: 0,
         ended: false,
     })
 }
@@ -58,25 +58,25 @@ pub(crate) fn consume_bytes(
 ) -> (Stream<u8>, Done)
     requires goes_on { GoesOnIn (Bytes automaton.now) stream }
     requires unended { stream.ended ≡ true → length bytes.now ≡ 0 }
-    requires bytes { size byte_width (read_by stream.standing) + length stream.begun + length bytes.now < 2 ^ 64 }
-    requires room { stream.told + length out.old < 2 ^ 64 }
+    requires bytes { size byte_width (read_by stream.standing) + length stream.partial + length bytes.now < 2 ^ 64 }
+    requires room { stream.reported + length out.old < 2 ^ 64 }
     ensures goes_on { GoesOnIn (Bytes automaton.now) result.0 }
-    ensures tells { Tells (Bytes automaton.now) bytes.now stream result.0 out.old out.new result.1 }
+    ensures reports { Reports (Bytes automaton.now) bytes.now stream result.0 out.old out.new result.1 }
 {
     let Stream {
         standing,
-        mut begun,
+        mut partial,
         marks,
-        told,
+        reported,
         ended,
     } = stream;
     let mut stepper = resume(automaton, &marks, standing, ended);
-    let done = stepper.feed(&mut begun, bytes, out);
+    let done = stepper.feed(&mut partial, bytes, out);
     let stream = Stream {
         standing: stepper.into_standing(),
-        begun,
+        partial,
         marks,
-        told: told + done.written,
+        reported: reported + done.written,
         ended,
     };
     (stream, done)
@@ -118,12 +118,12 @@ fn stepper<'a>(
     let folds = automaton.is_ascii_case_insensitive();
     match kind {
         StreamKind::Find => Ok(Stepper::Find(Finder::new(automaton.standard(), folds))),
-        StreamKind::Overlapping => Ok(Stepper::Overlapping(Teller::new(
+        StreamKind::Overlapping => Ok(Stepper::Overlapping(OverlappingStream::new(
             automaton.standard(),
             folds,
             false,
         ))),
-        StreamKind::NoSuffix => Ok(Stepper::Overlapping(Teller::new(
+        StreamKind::NoSuffix => Ok(Stepper::Overlapping(OverlappingStream::new(
             automaton.standard(),
             folds,
             true,
@@ -148,15 +148,15 @@ fn resume<'a>(
     ensures search { kind_in result ≡ kind_by standing }
     ensures read { read_in result ≡ read_by standing }
     ensures end { KnowsEnd ended result }
-    ensures told { (told : List (ModelMatch ℕ)) → HasToldBy byte_width sees sees (states_of automaton.entry.now) (states_of automaton.entry.now) automaton.entry.now.folds standing told → HasTold byte_width sees sees result told }
+    ensures reported { (reported : List (ModelMatch ℕ)) → HasReportedBy byte_width sees sees (states_of automaton.entry.now) (states_of automaton.entry.now) automaton.entry.now.folds standing reported → HasReported byte_width sees sees result reported }
 {
     let folds = automaton.is_ascii_case_insensitive();
     match standing {
-        Standing::Find(standing, told) => {
-            Stepper::Find(Finder::resume(automaton.standard(), standing, told, folds))
+        Standing::Find(standing, reported) => {
+            Stepper::Find(Finder::resume(automaton.standard(), standing, reported, folds))
         }
         Standing::Overlapping(standing) => {
-            Stepper::Overlapping(Teller::resume(automaton.standard(), standing, folds))
+            Stepper::Overlapping(OverlappingStream::resume(automaton.standard(), standing, folds))
         }
         Standing::Leftmost(standing) => {
             let mut stream = automaton.resume_leftmost_stream(marks, standing);

@@ -5,7 +5,7 @@ ghost use Rattle.daachorse_model.specs.Folding.{as_read};
 ghost use Rattle.daachorse_model.specs.Matches.{overlapping};
 ghost use Rattle.daachorse_model.specs.Units.{byte_width};
 ghost use Rattle.daachorse_bytewise_states.specs.StateRows.{HasNoRoom};
-ghost use Rattle.daachorse_bytewise.specs.Automata.{dictionary_of, kind_of, states_of};
+ghost use Rattle.daachorse.specs.bytewise.Automata.{dictionary_of, kind_of, states_of};
 ghost use Rattle.daachorse_streams.specs.ByKind.{non_overlapping};
 ghost use Rattle.daachorse_c.specs.declared.refusal.Refusal.TheVariants.{OutOfMemory};
 ghost use Rattle.daachorse_c.specs.declared.search.SearchKind.TheVariants.{Whole};

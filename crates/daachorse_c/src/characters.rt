@@ -67,10 +67,10 @@ impl<'a> Cursor<'a> {
     {
         let start = found.start.saturating_add(origin).saturating_sub(bytes);
         let end = found.end.saturating_add(origin).saturating_sub(bytes);
-        let begun = self.go_to(start);
+        let partial = self.go_to(start);
         let ended = self.go_to(end);
         CMatch {
-            start: characters.saturating_add(begun),
+            start: characters.saturating_add(partial),
             end: characters
                 .saturating_add(ended)
                 .saturating_sub(self.inside_by(end)),

@@ -6,7 +6,7 @@ ghost use Rattle.daachorse_model.specs.Folding.{as_read};
 ghost use Rattle.daachorse_model.specs.Matches.{overlapping};
 ghost use Rattle.daachorse_model.specs.Units.{char_width};
 ghost use Rattle.daachorse_charwise_states.specs.StateRows.{HasNoRoom};
-ghost use Rattle.daachorse_charwise.specs.Automata.{dictionary_of, kind_of, states_of};
+ghost use Rattle.daachorse.specs.charwise.Automata.{dictionary_of, kind_of, states_of};
 ghost use Rattle.daachorse_streams.specs.ByKind.{non_overlapping};
 ghost use Rattle.daachorse_c.specs.declared.refusal.Refusal.TheVariants.{OutOfMemory};
 ghost use Rattle.daachorse_c.specs.declared.search.SearchKind.TheVariants.{Whole};

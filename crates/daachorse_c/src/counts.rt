@@ -4,7 +4,7 @@ ghost use Rattle.std.specs.Prelude.{◌≡◌, ℕ, List, IfErr, IfOk, max};
 ghost use Rattle.std.specs.List.{fold};
 ghost use Rattle.daachorse_model.specs.Prefixes.{IsListing};
 ghost use Rattle.daachorse_model.specs.Units.{char_width, size};
-ghost use Rattle.daachorse_charwise.specs.Automata.{dictionary_of};
+ghost use Rattle.daachorse.specs.charwise.Automata.{dictionary_of};
 ghost use Rattle.daachorse_c.specs.declared.refusal.Refusal.TheVariants.{OutOfMemory};
 ghost use Rattle.daachorse_c.specs.Automata.{Bytes, Characters};
 ghost use Rattle.daachorse_c.specs.Counts.{AreCounts};

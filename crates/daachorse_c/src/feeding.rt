@@ -1,14 +1,14 @@
-//! Bytes fed to a stepper while there is room for what it tells.
+//! Bytes fed to a stepper while there is room for what it reports.
 
 ghost use Rattle.std.specs.Prelude.{◌≡◌, ◌<◌, ◌^◌, ◌+◌, ℕ, Bool, List, false, length};
 ghost use Rattle.daachorse_model.specs.declared.Match.{Match};
 ghost use Rattle.daachorse_model.specs.Units.{size};
 ghost use Rattle.daachorse_c.specs.Feeding.{Feeds};
-ghost use Rattle.daachorse_c.specs.Streams.{HasTold, IsOver, KnowsEnd, folds_in, kind_in, read_in};
+ghost use Rattle.daachorse_c.specs.Streams.{HasReported, IsOver, KnowsEnd, folds_in, kind_in, read_in};
 ghost use Rattle.daachorse_c.specs.Units.{IsOpenIn};
 
-use crate::begun::Begun;
 use crate::found::CMatch;
+use crate::partial::Partial;
 use crate::stepper::Stepper;
 use crate::stream_unit::{Pushed, StreamUnit};
 use daachorse_search::automaton::Automaton;
@@ -26,29 +26,29 @@ impl<'a, S: Automaton<u32>, L: Automaton<u32, Unit = S::Unit>> Stepper<'a, S, L>
 where
     S::Unit: StreamUnit,
 {
-    /// Consumes bytes that begin units while there is room for matches, and writes these. `begun`
-    /// has the bytes of a unit that has begun.
-    pub(crate) fn feed(&mut self, begun: &mut Begun, bytes: &[u8], out: &mut [CMatch]) -> Done
-        requires begun { IsOpenIn S.Unit.which begun.old }
+    /// Consumes bytes that begin units while there is room for matches, and writes these. `partial`
+    /// has the bytes of a partial unit.
+    pub(crate) fn feed(&mut self, partial: &mut Partial, bytes: &[u8], out: &mut [CMatch]) -> Done
+        requires partial { IsOpenIn S.Unit.which partial.old }
         requires unended { 0 < length bytes.now → KnowsEnd false self.old }
-        requires fits { size S.Unit.width (read_in self.old) + length begun.old + length bytes.now < 2 ^ 64 }
+        requires fits { size S.Unit.width (read_in self.old) + length partial.old + length bytes.now < 2 ^ 64 }
         ensures over { (a : S) (b : L) → IsOver a b self.old → IsOver a b self.new }
         ensures folds { folds_in self.new ≡ folds_in self.old }
         ensures search { kind_in self.new ≡ kind_in self.old }
         ensures end { (ended : Bool) → KnowsEnd ended self.old → (0 < length bytes.now → ended ≡ false) → KnowsEnd ended self.new }
-        ensures begun { IsOpenIn S.Unit.which begun.new }
-        ensures feeds { (told : List (Match ℕ)) → HasTold S.Unit.width S.sees L.sees self.old told → Feeds S.Unit.which S.Unit.width S.sees L.sees bytes.now told self.old self.new begun.old begun.new out.old out.new result }
+        ensures partial { IsOpenIn S.Unit.which partial.new }
+        ensures feeds { (reported : List (Match ℕ)) → HasReported S.Unit.width S.sees L.sees self.old reported → Feeds S.Unit.which S.Unit.width S.sees L.sees bytes.now reported self.old self.new partial.old partial.new out.old out.new result }
     {
         let mut taken = 0;
-        let mut written = self.tell(out);
+        let mut written = self.report(out);
         while written < out.len() && taken < bytes.len() {
-            match S::Unit::push(begun, bytes[taken]) {
+            match S::Unit::push(partial, bytes[taken]) {
                 Pushed::Wrong => break,
-                Pushed::Open(more) => *begun = more,
+                Pushed::Open(more) => *partial = more,
                 Pushed::Whole(unit) => {
-                    *begun = Begun::none();
+                    *partial = Partial::none();
                     self.consume(unit);
-                    written += self.tell(&mut out[written..]);
+                    written += self.report(&mut out[written..]);
                 }
             }
             taken += 1;

@@ -15,7 +15,7 @@ use daachorse::Match;
 
 impl<'a> Search<'a> {
     /// Writes the matches from the place on, as many as there is room for, and moves the place
-    /// behind the last one. Returns their number.
+    /// after the last one. Returns their number.
     pub(crate) fn find_on(&self, place: &mut Place, out: &mut [CMatch]) -> usize
         requires { IsPlaceIn (searched self.now) (haystack_of self.now) place.old.at }
         ensures writes { Writes (left_of (searched self.now) (haystack_of self.now) place.old) out.old out.new result }
@@ -33,7 +33,7 @@ impl<'a> Search<'a> {
         written
     }
 
-    /// Returns the next match, and moves the place behind it.
+    /// Returns the next match, and moves the place after it.
     pub(crate) fn next_match(&self, place: &mut Place) -> Option<Match<u32>>
         requires { IsPlaceIn (searched self.now) (haystack_of self.now) place.old.at }
         ensures within { IsPlaceIn (searched self.now) (haystack_of self.now) place.new.at }

@@ -39,7 +39,6 @@ use crate::unit::Unit;
 use std::alloc::Global;
 
 mod automaton;
-mod begun;
 mod building;
 mod byte_streams;
 mod bytewise;
@@ -54,6 +53,8 @@ mod handle;
 mod listing;
 mod loose;
 mod options;
+mod overlapping_stream;
+mod partial;
 mod patterns;
 mod place;
 mod reading;
@@ -67,7 +68,6 @@ mod stepper;
 mod stream;
 mod stream_unit;
 mod streams;
-mod teller;
 mod unit;
 
 /// Returned by a call that is not refused.
@@ -347,12 +347,12 @@ pub extern "C" fn daachorse_leftmost_find(
 }
 
 /// Goes on from the place with the search of [`daachorse_leftmost_find`], or for a standard
-/// automaton with that of [`daachorse_find`]. Moves the place behind the last match written, or
+/// automaton with that of [`daachorse_find`]. Moves the place after the last match written, or
 /// over the haystack's end if no match is left. A place that is all 0 is the beginning.
 ///
 /// # Errors
 ///
-/// The numbers of [`Refusal::EmptyHandle`], of `WrongPlace` if the place is behind the haystack,
+/// The numbers of [`Refusal::EmptyHandle`], of `WrongPlace` if the place is after the haystack,
 /// and for an automaton over characters of `InvalidUtf8` if the haystack is no UTF-8, and of
 /// `WrongPlace` if the place is inside a character. Nothing changes then, and `written` is 0.
 #[unsafe(no_mangle)]
@@ -520,8 +520,8 @@ pub extern "C" fn daachorse_begin(alloc: Global, handle: &mut Handle, search: u3
 ///
 /// The numbers of [`Refusal::EmptyHandle`], `NoStream`, `StreamEnded` if bytes come after the end,
 /// `StreamTooLong` if an offset or the number of matches would pass 64 bits, and of `InvalidUtf8`
-/// if the automaton is over characters and none begins with the first byte, behind those of one
-/// that has begun. Nothing changes then, and `taken` and `written` are 0.
+/// if the automaton is over characters and none begins with the first byte, after those of one
+/// that is partial. Nothing changes then, and `taken` and `written` are 0.
 #[unsafe(no_mangle)]
 pub extern "C" fn daachorse_consume(
     alloc: Global,
@@ -555,7 +555,7 @@ pub extern "C" fn daachorse_consume(
 /// # Errors
 ///
 /// The numbers of [`Refusal::EmptyHandle`] and `NoStream`, and of `InvalidUtf8` if a character has
-/// begun that is not whole. The handle is then unchanged.
+/// partial that is not whole. The handle is then unchanged.
 #[unsafe(no_mangle)]
 pub extern "C" fn daachorse_end(alloc: Global, handle: &mut Handle) -> u32
     ensures ended { result ≡ 0 → IsSomeAnd handle.old.automaton (λ a. IsSomeAnd handle.new.automaton (HasEnded a)) }
@@ -667,7 +667,7 @@ pub extern "C" fn daachorse_read(
 }
 
 /// Does what [`daachorse_read`] does for an automaton over bytes, if `unit` is 0, or over
-/// characters, if it is 1. The written form does not tell which it is of.
+/// characters, if it is 1. The written form does not report which it is of.
 ///
 /// # Errors
 ///

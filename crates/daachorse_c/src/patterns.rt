@@ -2,7 +2,7 @@
 
 ghost use Rattle.std.specs.Prelude.{◌≡◌, ◌⊎◌, IfErr, IfOk};
 ghost use Rattle.daachorse_model.specs.Dictionary.{registrations_of};
-ghost use Rattle.daachorse_charwise.specs.Building.{registrations_of_strings};
+ghost use Rattle.daachorse.specs.charwise.Building.{registrations_of_strings};
 ghost use Rattle.daachorse_c.specs.Patterns.{ArePatterns, AreTexts, registrations, texts_in};
 ghost use Rattle.daachorse_c.specs.declared.refusal.Refusal.TheVariants.{InvalidUtf8, OutOfMemory, WrongPatterns};
 ghost use Rattle.daachorse_c.specs.declared.unit.Unit.TheVariants.{Character};

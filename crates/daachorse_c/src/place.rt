@@ -19,8 +19,8 @@ pub struct Place {
 }
 
 impl Place {
-    /// Moves behind a match of the text from here on, and returns it as one of the haystack, which
-    /// has `len` bytes. The unit behind the match has `step` bytes.
+    /// Moves after a match of the text from here on, and returns it as one of the haystack, which
+    /// has `len` bytes. The unit after the match has `step` bytes.
     pub(crate) fn pass(&mut self, found: Match<u32>, step: usize, len: usize) -> Match<u32>
         requires order { found.start ≤ found.end }
         requires within { self.old.at + found.end ≤ len }

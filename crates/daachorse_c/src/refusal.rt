@@ -32,13 +32,13 @@ pub enum Refusal {
     InvalidAutomaton,
     /// The output is longer than the room for it.
     NoRoom,
-    /// No stream was begun.
+    /// No stream was partial.
     NoStream,
     /// An offset in the stream, or the number of its matches, would pass 64 bits.
     StreamTooLong,
     /// An option is neither 0 nor 1, or one without a name is not 0.
     UnknownOption,
-    /// The place from which a search goes on is behind the haystack, or inside a character.
+    /// The place from which a search goes on is after the haystack, or inside a character.
     WrongPlace,
     /// No search of a stream has the given number.
     UnknownSearch,

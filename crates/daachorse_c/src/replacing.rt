@@ -74,7 +74,7 @@ impl<'a> Search<'a> {
     }
 }
 
-/// Copies to `out` as many bytes as there is room for behind the first `size`, and returns how many
+/// Copies to `out` as many bytes as there is room for after the first `size`, and returns how many
 /// would be there then, or `usize::MAX` if they are more.
 fn put(bytes: &[u8], size: usize, out: &mut [u8]) -> usize
     ensures { (text first : List ℕ) → IsCut text first out.old size → IsCut (text ++ bytes.now) first out.new result }

@@ -54,7 +54,7 @@ impl<'a> Search<'a> {
         self.bytes().len()
     }
 
-    /// The same with what comes from a place on. There is nothing behind the haystack or inside a
+    /// The same with what comes from a place on. There is nothing after the haystack or inside a
     /// character.
     pub(crate) fn part(&self, from: usize) -> Option<Search<'a>>
         ensures { MatchOption result (¬ IsPlaceIn (searched self.now) (haystack_of self.now) from)

@@ -7,7 +7,7 @@ ghost use Rattle.daachorse_c.specs.Admitting.{IsNotAdmitted};
 ghost use Rattle.daachorse_c.specs.Streams.{IsPlaced, read_by};
 ghost use Rattle.daachorse_c.specs.Units.{IsOpenIn};
 
-use crate::begun::Begun;
+use crate::partial::Partial;
 use crate::refusal::Refusal;
 use crate::stepper::Standing;
 use crate::stream_unit::{Pushed, StreamUnit};
@@ -20,12 +20,12 @@ use std::alloc::Global;
 pub struct Stream<U: EdgeLabel> {
     /// The saved stepper.
     pub standing: Standing<U>,
-    /// The bytes of a unit that has begun.
-    pub begun: Begun,
+    /// The bytes of a partial unit.
+    pub partial: Partial,
     /// What a leftmost search knows of the automaton. Empty for other searches.
     pub marks: StreamMarks<Global>,
     /// How many matches were reported in all.
-    pub told: usize,
+    pub reported: usize,
     /// Whether no more bytes come.
     pub ended: bool,
 }
@@ -35,15 +35,15 @@ impl<U: StreamUnit> Stream<U> {
     /// offset or match count would not fit a `usize` after so many more bytes and matches.
     pub(crate) fn admit(&self, bytes: &[u8], room: usize) -> Result<(), Refusal>
         requires place { IsPlaced U.EdgeLabel.width self.now.standing }
-        requires begun { IsOpenIn U.which self.now.begun }
+        requires partial { IsOpenIn U.which self.now.partial }
         ensures unended { OnOk result (self.now.ended ≡ true → length bytes.now ≡ 0) }
-        ensures bytes { OnOk result (size U.EdgeLabel.width (read_by self.now.standing) + length self.now.begun + length bytes.now < 2 ^ 64) }
-        ensures room { OnOk result (self.now.told + room < 2 ^ 64) }
+        ensures bytes { OnOk result (size U.EdgeLabel.width (read_by self.now.standing) + length self.now.partial + length bytes.now < 2 ^ 64) }
+        ensures room { OnOk result (self.now.reported + room < 2 ^ 64) }
         ensures err { IfErr result (IsNotAdmitted U.which U.EdgeLabel.width self.now bytes.now room) }
     {
         let left = usize::MAX - self.standing.place();
-        let begun = self.begun.as_slice().len();
-        if begun > left || bytes.len() > left - begun || room > usize::MAX - self.told {
+        let partial = self.partial.as_slice().len();
+        if partial > left || bytes.len() > left - partial || room > usize::MAX - self.reported {
             return Err(Refusal::StreamTooLong);
         }
         if bytes.is_empty() {
@@ -52,18 +52,18 @@ impl<U: StreamUnit> Stream<U> {
         if self.ended {
             return Err(Refusal::StreamEnded);
         }
-        match U::push(&self.begun, bytes[0]) {
+        match U::push(&self.partial, bytes[0]) {
             Pushed::Wrong => Err(Refusal::InvalidUtf8),
             Pushed::Whole(_) | Pushed::Open(_) => Ok(()),
         }
     }
 
-    /// Fails if a character has begun that is not whole, so that the stream may not end there.
+    /// Fails if there is a partial character, so that the stream may not end there.
     pub(crate) fn may_end(&self) -> Result<(), Refusal>
-        ensures ok { OnOk result (self.now.begun ≡ []) }
-        ensures err { IfErr result (λ r. (r ≡ InvalidUtf8) × (self.now.begun ≢ [])) }
+        ensures ok { OnOk result (self.now.partial ≡ []) }
+        ensures err { IfErr result (λ r. (r ≡ InvalidUtf8) × (self.now.partial ≢ [])) }
     {
-        if self.begun.is_empty() {
+        if self.partial.is_empty() {
             Ok(())
         } else {
             Err(Refusal::InvalidUtf8)
@@ -76,9 +76,9 @@ impl<U: StreamUnit> Stream<U> {
     {
         Stream {
             standing: self.standing,
-            begun: self.begun,
+            partial: self.partial,
             marks: self.marks,
-            told: self.told,
+            reported: self.reported,
             ended: true,
         }
     }

@@ -6,16 +6,16 @@ ghost use Rattle.daachorse_c.specs.declared.unit.Unit.{Unit};
 ghost use Rattle.daachorse_c.specs.declared.unit.Unit.TheVariants.{Byte, Character};
 ghost use Rattle.daachorse_c.specs.Units.{IsOpenIn, IsPushed, spelled_in};
 
-use crate::begun::Begun;
+use crate::partial::Partial;
 use daachorse_search::step_unit::StepUnit;
 
-/// What a byte makes of the bytes of a unit that has begun.
+/// What a byte makes of the bytes of a partial unit.
 #[derive(Drop)]
 pub enum Pushed<U> {
     /// The whole unit.
     Whole(U),
-    /// A unit that has begun. More of its bytes have to come.
-    Open(Begun),
+    /// A partial unit. More of its bytes have to come.
+    Open(Partial),
     /// Bytes with which no unit begins.
     Wrong,
 }
@@ -25,10 +25,10 @@ pub trait StreamUnit: StepUnit {
     /// Which unit it is.
     ghost which: { Unit };
 
-    /// Appends a byte to those of a unit that has begun, if one has.
-    fn push(begun: &Begun, byte: u8) -> Pushed<Self>
-        requires { IsOpenIn which begun.now }
-        ensures { IsPushed which Self.EdgeLabel.unit (begun.now ++ byte ∷ []) result };
+    /// Appends a byte to those of a partial unit, if one has.
+    fn push(partial: &Partial, byte: u8) -> Pushed<Self>
+        requires { IsOpenIn which partial.now }
+        ensures { IsPushed which Self.EdgeLabel.unit (partial.now ++ byte ∷ []) result };
 
     // Its bytes spell it.
     ghost sized: { (w : List ℕ) → length (spelled_in which w) ≡ size Self.EdgeLabel.width w };
@@ -40,7 +40,7 @@ impl StreamUnit for u8 {
     ghost which = { Byte };
 
     #[inline(always)]
-    fn push(_begun: &Begun, byte: u8) -> Pushed<u8> {
+    fn push(_partial: &Partial, byte: u8) -> Pushed<u8> {
         Pushed::Whole(byte)
     }
 
@@ -52,16 +52,16 @@ impl StreamUnit for char {
 
     ghost which = { Character };
 
-    fn push(begun: &Begun, byte: u8) -> Pushed<char> {
-        let begun = begun.with(byte);
-        match str::from_utf8(begun.as_slice()) {
+    fn push(partial: &Partial, byte: u8) -> Pushed<char> {
+        let partial = partial.with(byte);
+        match str::from_utf8(partial.as_slice()) {
             Ok(text) => match text.chars().next() {
                 Some(character) => Pushed::Whole(character),
                 None => Pushed::Wrong,
             },
             Err(error) => match error.error_len() {
                 Some(_) => Pushed::Wrong,
-                None => Pushed::Open(begun),
+                None => Pushed::Open(partial),
             },
         }
     }

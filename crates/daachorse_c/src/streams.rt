@@ -8,7 +8,7 @@ ghost use Rattle.daachorse_c.specs.Admitting.{IsNotAdmitted};
 ghost use Rattle.daachorse_c.specs.Automata.{Automaton, kind_of, unit_of, width_of};
 ghost use Rattle.daachorse_c.specs.Held.{automaton_of, stream_of};
 ghost use Rattle.daachorse_c.specs.Searches.{ServesKind, search_of};
-ghost use Rattle.daachorse_c.specs.Streams.{IsAtBeginning, Tells, read_by};
+ghost use Rattle.daachorse_c.specs.Streams.{IsAtBeginning, Reports, read_by};
 ghost use Rattle.daachorse_c.specs.Through.{GoesThrough};
 
 use crate::byte_streams::{begin_bytes, consume_bytes};
@@ -64,8 +64,8 @@ impl Streams {
     ) -> Result<(), Refusal>
         requires { GoesThrough (automaton_of searches.now) self.now }
         ensures unended { OnOk result ((stream_of self.now).ended ≡ true → length bytes.now ≡ 0) }
-        ensures bytes { OnOk result (size (width_of (automaton_of searches.now)) (read_by (stream_of self.now).standing) + length (stream_of self.now).begun + length bytes.now < 2 ^ 64) }
-        ensures room { OnOk result ((stream_of self.now).told + room < 2 ^ 64) }
+        ensures bytes { OnOk result (size (width_of (automaton_of searches.now)) (read_by (stream_of self.now).standing) + length (stream_of self.now).partial + length bytes.now < 2 ^ 64) }
+        ensures room { OnOk result ((stream_of self.now).reported + room < 2 ^ 64) }
         ensures err { IfErr result (IsNotAdmitted (unit_of (automaton_of searches.now)) (width_of (automaton_of searches.now)) (stream_of self.now) bytes.now room) }
     {
         let _ = searches;
@@ -84,10 +84,10 @@ impl Streams {
     ) -> (Streams, Done)
         requires goes_on { GoesThrough (automaton_of searches.now) self }
         requires unended { (stream_of self).ended ≡ true → length bytes.now ≡ 0 }
-        requires bytes { size (width_of (automaton_of searches.now)) (read_by (stream_of self).standing) + length (stream_of self).begun + length bytes.now < 2 ^ 64 }
-        requires room { (stream_of self).told + length out.old < 2 ^ 64 }
+        requires bytes { size (width_of (automaton_of searches.now)) (read_by (stream_of self).standing) + length (stream_of self).partial + length bytes.now < 2 ^ 64 }
+        requires room { (stream_of self).reported + length out.old < 2 ^ 64 }
         ensures goes_on { GoesThrough (automaton_of searches.now) result.0 }
-        ensures tells { Tells (automaton_of searches.now) bytes.now (stream_of self) (stream_of result.0) out.old out.new result.1 }
+        ensures reports { Reports (automaton_of searches.now) bytes.now (stream_of self) (stream_of result.0) out.old out.new result.1 }
     {
         match self {
             Streams::Bytes(stream) => match searches {
@@ -112,10 +112,10 @@ impl Streams {
         }
     }
 
-    /// Fails if a character has begun that is not whole, so that the stream may not end there.
+    /// Fails if there is a partial character, so that the stream may not end there.
     pub(crate) fn may_end(&self) -> Result<(), Refusal>
-        ensures ok { OnOk result ((stream_of self.now).begun ≡ []) }
-        ensures err { IfErr result (λ r. (r ≡ InvalidUtf8) × ((stream_of self.now).begun ≢ [])) }
+        ensures ok { OnOk result ((stream_of self.now).partial ≡ []) }
+        ensures err { IfErr result (λ r. (r ≡ InvalidUtf8) × ((stream_of self.now).partial ≢ [])) }
     {
         match self {
             Streams::Bytes(stream) => stream.may_end(),
@@ -126,7 +126,7 @@ impl Streams {
     /// The stream, of which no more bytes come.
     pub(crate) fn ended(self) -> Streams
         ensures ended { stream_of result ≡ record (stream_of self) { ended = true } }
-        ensures goes_on { (a : Automaton) → GoesThrough a self → (stream_of self).begun ≡ [] → GoesThrough a result }
+        ensures goes_on { (a : Automaton) → GoesThrough a self → (stream_of self).partial ≡ [] → GoesThrough a result }
     {
         match self {
             Streams::Bytes(stream) => Streams::Bytes(stream.ended()),

@@ -57,7 +57,7 @@ mod over_rows {
         Accelerated as ByItsModule, Rowed, RowedLeftmost, RowedStandard,
     };
     pub use daachorse::bytewise::{AccelerateError, Accelerated};
-    pub use daachorse::{Lends, Searched, in_blocks};
+    pub use daachorse::{FromBytes, FromReader, Lends, Searched, in_blocks};
 }
 
 /// The names of the automaton over characters.

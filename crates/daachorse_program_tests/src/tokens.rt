@@ -1,7 +1,7 @@
 //! `daactok`: worked rows, over automata as built and as read back.
 
 ghost use Rattle.std.specs.Prelude.{◌≡◌, IfOk};
-ghost use Rattle.daachorse_charwise.specs.Automata.{kind_of};
+ghost use Rattle.daachorse.specs.charwise.Automata.{kind_of};
 
 use crate::expect;
 use daachorse::{

@@ -51,7 +51,7 @@ use Rattle.daachorse_model.specs.Leftmost.{leftmost}
 use Rattle.daachorse_model.specs.Units.{byte_width, char_width, size}
 use Rattle.daachorse_model.proofs.FoldLaws.{as_read-append, size-as_read}
 use Rattle.daachorse_model.proofs.Suffixes.{size-append}
-use Rattle.daachorse_streams.proofs.ReadLaws.{bytes_are, characters_are}
+use Rattle.daachorse_streams.specs.SourceLaws.{bytes_are, characters_are}
 use Rattle.daachorse_search.specs.Readers.{GivesByte, GivesCharacter, Reading, to_give}
 use Rattle.daachorse_search.specs.Views.{AutomatonView}
 use Rattle.daachorse_search.proofs.ReaderLaws.{block_given, character_kept, gives_kept, text_given}

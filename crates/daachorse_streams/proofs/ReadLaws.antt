@@ -1,4 +1,4 @@
--- What a reader gave went to the output with each match replaced: its bytes, or the characters that they spell.
+-- What a reader gave went to the output with each match replaced: its units, whose bytes are those that were read.
 use Rattle.std.proofs.Common.{
   ◌≡◌,
   ℕ,
@@ -22,19 +22,21 @@ use Rattle.std.proofs.Common.{
   append-nil,
   arith,
 }
-use Rattle.std.proofs.lemmas.Bool.{false≢true}
-use Rattle.std.proofs.lemmas.List.{map-id}
-use Rattle.std.proofs.lemmas.List.Elements.{All-cons, All-nil}
-use Rattle.std.specs.Prelude.{◌+◌, ◌≤◌, All, IfErr, IfSome, IsSome, OnOk, ⊤, flat_map, length, map}
+use Rattle.std.proofs.lemmas.List.{map-append}
+use Rattle.std.proofs.lemmas.List.Elements.{All-nil}
+use Rattle.std.specs.Prelude.{◌+◌, ◌≤◌, All, IfErr, IfSome, OnOk, flat_map, length, map}
 use Rattle.std.specs.Borrow.{MutBor}
-use Rattle.std.specs.Char.{IsScalar, encode_utf8}
 use Rattle.std.specs.Io.KnownBytes.{Consumes, IsAtEnd}
 use Rattle.std.specs.Iterator.{Yields}
-use Rattle.std.specs.Str.{encode_utf8_all}
 use Rattle.std.specs.declared.io.Error.{Error}
-use Rattle.std.proofs.KnownBytes.{Consumes-nil, Consumes-trans}
 use Rattle.daachorse_model.specs.declared.Match.{Match}
-use Rattle.daachorse_search.specs.Readers.{GivesByte, GivesCharacter, Reading, to_give, to_read}
+use Rattle.daachorse_model.specs.declared.MatchKind.{MatchKind}
+use Rattle.daachorse_model.specs.declared.MatchKind.TheVariants.{Standard, LeftmostLongest, LeftmostFirst}
+use Rattle.daachorse_model.specs.Dictionary.{Dictionary}
+use Rattle.daachorse_model.specs.Laws.{Follows}
+use Rattle.daachorse_model.proofs.Find.{standard_apart}
+use Rattle.daachorse_model.proofs.Overlap.{leftmost_apart}
+use Rattle.daachorse_streams.specs.ByKind.{non_overlapping}
 use Rattle.daachorse_streams.specs.ReplacedWith.{IsReplaced, IsReplacedSoFar, IsStopped}
 use Rattle.daachorse_streams.specs.Streams.{
   HasNoLonger,
@@ -48,13 +50,6 @@ use Rattle.daachorse_streams.specs.Streams.{
   ReplacesRead,
   block,
 }
-use Rattle.daachorse_model.specs.declared.MatchKind.{MatchKind}
-use Rattle.daachorse_model.specs.declared.MatchKind.TheVariants.{Standard, LeftmostLongest, LeftmostFirst}
-use Rattle.daachorse_model.specs.Dictionary.{Dictionary}
-use Rattle.daachorse_model.specs.Laws.{Follows}
-use Rattle.daachorse_model.proofs.Find.{standard_apart}
-use Rattle.daachorse_model.proofs.Overlap.{leftmost_apart}
-use Rattle.daachorse_streams.specs.ByKind.{non_overlapping}
 use Rattle.daachorse_streams.proofs.LeadsOn.{so_far_nothing}
 use Rattle.daachorse_streams.proofs.HeldLaws.{held-back, held-first}
 
@@ -70,202 +65,101 @@ some_taken None b text took = tt
 some_taken (Some xs) None text took = absurd took
 some_taken (Some xs) (Some ys) text took = (ys, took)
 
-pub bytes_are : (units : List ℕ) → flat_map (λ b. b ∷ []) units ≡ units
-bytes_are [] = refl
-bytes_are (b ∷ units) = ap (λ l. b ∷ l) (bytes_are units)
+-- any numbers are units of labels
+covered : {U : Type 0} (unit : U → ℕ) (of_unit : ℕ → U) → ((u : ℕ) → unit (of_unit u) ≡ u) → (units : List ℕ) → map unit (map of_unit units) ≡ units
+covered unit of_unit same [] = refl
+covered unit of_unit same (u ∷ units) = ap (λ v. v ∷ map unit (map of_unit units)) (same u) ∙ ap (λ l. u ∷ l) (covered unit of_unit same units)
 
-pub characters_are : (units : List ℕ) → flat_map encode_utf8 units ≡ encode_utf8_all units
-characters_are [] = refl
-characters_are (c ∷ units) = ap (λ l. encode_utf8 c ++ l) (characters_are units)
-
-module _ {R : Type 0} (known : R → Option (List ℕ)) where
-  byte_taken : (s : Reading R) (bytes : List ℕ) (t : Reading R) → Yields (GivesByte known) s bytes t
-      → Consumes (to_give known s) (to_give known t) bytes
-  byte_taken s [] t same = subst (λ (x : Reading R). Consumes (to_give known s) (to_give known x) []) same (Consumes-nil (to_give known s))
-  byte_taken s (b ∷ bytes) t (j, gave, run) =
-      Consumes-trans (to_give known s) (to_give known j) (to_give known t) (b ∷ []) bytes gave.0 (byte_taken j bytes t run)
-
-  characters_taken : (s : Reading R) (units : List ℕ) (t : Reading R) → Yields (GivesCharacter known) s units t
-      → Consumes (to_give known s) (to_give known t) (encode_utf8_all units)
-  characters_taken s [] t same =
-      subst (λ (x : Reading R). Consumes (to_give known s) (to_give known x) []) same (Consumes-nil (to_give known s))
-  characters_taken s (c ∷ units) t (j, gave, run) =
-      Consumes-trans (to_give known s) (to_give known j) (to_give known t) (encode_utf8 c) (encode_utf8_all units)
-      (byte_taken s (encode_utf8 c) j gave.1) (characters_taken j units t run)
-
-  are_scalars : (s : Reading R) (units : List ℕ) (t : Reading R) → Yields (GivesCharacter known) s units t → All IsScalar units
-  are_scalars s [] t same = All-nil IsScalar
-  are_scalars s (c ∷ units) t (j, gave, run) = All-cons IsScalar c units gave.0 (are_scalars j units t run)
-
-  at_end : (s t : Reading R) → GivesCharacter known s None t → t.failure ≡ None → IsAtEnd (to_give known s)
-  at_end s t (inl gave) whole = gave.3 whole
-  at_end s t (inr fails) whole = absurd (false≢true (subst IsSome whole fails.failed))
-
-  starts_from : {source : Reading R} {reader : R} {left : Option (List ℕ)} → source ≡ to_read reader → known reader ≡ left
-      → to_give known source ≡ left
-  starts_from reads same = ap (λ (x : Reading R). to_give known x) reads ∙ same
-
-module _ {V P O F R : Type 0} (bytes : P → List ℕ) (taken : O → Option (List ℕ))
+module _ {V P O F S U : Type 0} (bytes : P → List ℕ) (taken : O → Option (List ℕ))
     (step : F → Match V → P → MutBor O → Result (Unit {0}) Error → MutBor O → F → Type 0)
-    {found matches : List ℕ → List (Match V)} (known : R → Option (List ℕ)) {source : Reading R} {reader : R} (f : F) (old new : O)
-    {left : Option (List ℕ)}
-    (reads : source ≡ to_read reader) (same : known reader ≡ left) (alike : found ≡ matches) where
-  -- bytes that were taken to the end are all that was known, and so are characters
-  all_bytes : (units : List ℕ) (last : Reading R) → Yields (GivesByte known) source units last
-      → IsAtWholeEnd (GivesByte known) (λ (s : Reading R). s.failure) last → IfSome left (λ l. l ≡ units)
-  all_bytes units last took (ended, ends, whole) =
-      subst (λ o. IfSome o (λ l. l ≡ units)) (starts_from known reads same)
-      (all_taken (to_give known source) (to_give known last) units (byte_taken known source units last took) (ends.3 whole))
+    (steps : S → Option U → S → Type 0) (failure : S → Option Error) (unit : U → ℕ) (form : U → List ℕ)
+    (of_unit : ℕ → U) (same : (u : ℕ) → unit (of_unit u) ≡ u)
+    (is_unit : ℕ → Type 0) (spelled : List ℕ → List ℕ) (spells : (units : List U) → flat_map form units ≡ spelled (map unit units))
+    (known : S → Option (List ℕ))
+    (took : (s : S) (units : List U) (t : S) → Yields steps s units t
+    → All is_unit (map unit units) × Consumes (known s) (known t) (spelled (map unit units)))
+    (ends : (s t : S) → steps s None t → failure t ≡ None → IsAtEnd (known s))
+    {found matches : List ℕ → List (Match V)} (alike : found ≡ matches)
+    (source : S) (left : Option (List ℕ)) (starts : known source ≡ left) (f : F) (old new : O) where
+  -- what was taken to the end is all that was known
+  all_given : (units : List U) (last : S) → Yields steps source units last → IsAtWholeEnd steps failure last
+      → IfSome left (λ l. l ≡ spelled (map unit units))
+  all_given units last run (ended, gave, whole) =
+      subst (λ o. IfSome o (λ l. l ≡ spelled (map unit units))) starts
+      (all_taken (known source) (known last) (spelled (map unit units)) (took source units last run).1 (ends last ended gave whole))
 
-  all_characters : (units : List ℕ) (last : Reading R) → Yields (GivesCharacter known) source units last
-      → IsAtWholeEnd (GivesCharacter known) (λ (s : Reading R). s.failure) last
-      → IfSome left (λ l. l ≡ encode_utf8_all units)
-  all_characters units last took (ended, ends, whole) =
-      subst (λ o. IfSome o (λ l. l ≡ encode_utf8_all units)) (starts_from known reads same)
-      (all_taken (to_give known source) (to_give known last) (encode_utf8_all units) (characters_taken known source units last took)
-      (at_end known last ended ends whole))
+  some_given : (units : List U) (last : S) → Yields steps source units last
+      → IfSome left (λ l. (rest : List ℕ) × (l ≡ spelled (map unit units) ++ rest))
+  some_given units last run =
+      subst (λ o. IfSome o (λ l. (rest : List ℕ) × (l ≡ spelled (map unit units) ++ rest))) starts
+      (some_taken (known source) (known last) (spelled (map unit units)) (took source units last run).1)
 
-  bytes_up_to : (units : List ℕ) → IsReplacedSoFar bytes taken (flat_map (λ b. b ∷ []) units) step (found (map (λ b. b) units)) f old new
-      → IsReplacedSoFar bytes taken units step (matches units) f old new
-  bytes_up_to units replaced =
-      let Q : List ℕ → List ℕ → Type 0 = λ text us. IsReplacedSoFar bytes taken text step (found us) f old new in
-      let M : (List ℕ → List (Match V)) → Type 0 = λ m. IsReplacedSoFar bytes taken units step (m units) f old new in
-      subst M alike
-      (subst (λ text. Q text units) (bytes_are units) (subst (λ us. Q (flat_map (λ b. b ∷ []) units) us) (map-id units) replaced))
+  -- what is said of the bytes of labels and what is found in their units is said of the bytes and matches of these units
+  of_units : (T : List ℕ → List (Match V) → Type 0) (units : List U) → T (flat_map form units) (found (map unit units))
+      → T (spelled (map unit units)) (matches (map unit units))
+  of_units T units h = subst (λ m. T (spelled (map unit units)) (m (map unit units))) alike (subst (λ text. T text (found (map unit units))) (spells units) h)
 
-  characters_up_to : (units : List ℕ) → IsReplacedSoFar bytes taken (flat_map encode_utf8 units) step (found (map (λ c. c) units)) f old new
-      → IsReplacedSoFar bytes taken (encode_utf8_all units) step (matches units) f old new
-  characters_up_to units replaced =
-      let Q : List ℕ → List ℕ → Type 0 = λ text us. IsReplacedSoFar bytes taken text step (found us) f old new in
-      let M : (List ℕ → List (Match V)) → Type 0 = λ m. IsReplacedSoFar bytes taken (encode_utf8_all units) step (m units) f old new in
-      subst M alike
-      (subst (λ text. Q text units) (characters_are units) (subst (λ us. Q (flat_map encode_utf8 units) us) (map-id units) replaced))
+  -- also where any numbers follow them
+  of_more : (T : List ℕ → List (Match V) → Type 0) (units : List U)
+      → ((more : List U) → T (flat_map form (units ++ more)) (found (map unit (units ++ more))))
+      → (more : List ℕ) → T (spelled (map unit units ++ more)) (matches (map unit units ++ more))
+  of_more T units every more =
+      let labels = map of_unit more in
+      let joined = map-append unit units labels ∙ ap (λ l. map unit units ++ l) (covered unit of_unit same more) in
+      subst (λ us. T (spelled us) (matches us)) joined (of_units T (units ++ labels) (every labels))
 
-  bytes_stopped : (e : Error) (units : List ℕ)
-      → IsStopped bytes taken (flat_map (λ b. b ∷ []) units) step e (found (map (λ b. b) units)) f old new
-      → IsStopped bytes taken units step e (matches units) f old new
-  bytes_stopped e units stops =
-      let Q : List ℕ → List ℕ → Type 0 = λ text us. IsStopped bytes taken text step e (found us) f old new in
-      let M : (List ℕ → List (Match V)) → Type 0 = λ m. IsStopped bytes taken units step e (m units) f old new in
-      subst M alike
-      (subst (λ text. Q text units) (bytes_are units) (subst (λ us. Q (flat_map (λ b. b ∷ []) units) us) (map-id units) stops))
-
-  characters_stopped : (e : Error) (units : List ℕ)
-      → IsStopped bytes taken (flat_map encode_utf8 units) step e (found (map (λ c. c) units)) f old new
-      → IsStopped bytes taken (encode_utf8_all units) step e (matches units) f old new
-  characters_stopped e units stops =
-      let Q : List ℕ → List ℕ → Type 0 = λ text us. IsStopped bytes taken text step e (found us) f old new in
-      let M : (List ℕ → List (Match V)) → Type 0 = λ m. IsStopped bytes taken (encode_utf8_all units) step e (m units) f old new in
-      subst M alike
-      (subst (λ text. Q text units) (characters_are units) (subst (λ us. Q (flat_map encode_utf8 units) us) (map-id units) stops))
-
-  -- the same text, with the same matches
-  held_alike : (units : List ℕ) {text spelled held : List ℕ} → text ≡ spelled
-      → IsHeldBack bytes taken step (λ more. found (map (λ u. u) (units ++ more))) text held f old new
-      → IsHeldBack bytes taken step (λ more. matches (units ++ more)) spelled held f old new
-  held_alike units same h = record {
+  held_alike : (units : List U) {held : List ℕ}
+      → IsHeldBack bytes taken step (λ more. found (map unit (units ++ more))) (flat_map form units) held f old new
+      → IsHeldBack bytes taken step (λ more. matches (map unit units ++ more)) (spelled (map unit units)) held f old new
+  held_alike units h = record {
     done = h.done;
     front = h.front;
-    parts = sym same ∙ h.parts;
+    parts = sym (spells units) ∙ h.parts;
     replaced = h.replaced;
     certain = λ more. (
-        let c = h.certain more in
-        (c.0, sym (ap (λ m. m (units ++ more)) alike) ∙ ap found (sym (map-id (units ++ more))) ∙ c.1, c.2)
+        let T : List ℕ → List (Match V) → Type 0 = λ text ms. (rest : List (Match V)) × (ms ≡ h.done ++ rest) × Follows (length h.front) rest in
+        of_more T units h.certain more
         );
   }
 
-  read-bytes : IsStreamed bytes taken step (GivesByte known) (λ (s : Reading R). s.failure) (λ b. b) (λ b. b ∷ []) found source f old new
-      → IsReadReplaced bytes taken step (λ b. ⊤) (λ b. b) left matches f old new
-  read-bytes h = record {
-    units = h.units;
-    are = λ k d inside. tt;
-    all = all_bytes h.units h.last h.took (h.ended, h.ends, h.whole);
-    replaced =
-        let Q : List ℕ → List ℕ → Type 0 = λ text units. IsReplaced bytes taken text step (found units) f old new in
-        let M : (List ℕ → List (Match V)) → Type 0 = λ m. IsReplaced bytes taken h.units step (m h.units) f old new in
-        subst M alike
-        (subst (λ text. Q text h.units) (bytes_are h.units)
-        (subst (λ units. Q (flat_map (λ b. b ∷ []) h.units) units) (map-id h.units) h.replaced));
+  read-whole : IsStreamed bytes taken step steps failure unit form found source f old new
+      → IsReadReplaced bytes taken step is_unit spelled left matches f old new
+  read-whole h = record {
+    units = map unit h.units;
+    are = (took source h.units h.last h.took).0;
+    all = all_given h.units h.last h.took (h.ended, h.ends, h.whole);
+    replaced = of_units (λ text ms. IsReplaced bytes taken text step ms f old new) h.units h.replaced;
   }
 
-  read-some_bytes : {no_longer : ℕ → Type 0} (longest : ℕ) → ((most : ℕ) → no_longer most → longest ≤ most) → (e : Error)
-      → IsStreamedSoFar bytes taken step (GivesByte known) (λ (s : Reading R). s.failure) (λ b. b) (λ b. b ∷ []) found longest e source f
-      old new
-      → IsReadReplacedSoFar bytes taken step (λ b. ⊤) (λ b. b) left matches no_longer e f old new
-  read-some_bytes longest least e h = record {
-    units = h.units;
-    are = λ k d inside. tt;
-    begins =
-        subst (λ o. IfSome o (λ l. (rest : List ℕ) × (l ≡ h.units ++ rest))) (starts_from known reads same)
-        (some_taken (to_give known source) (to_give known h.last) h.units (byte_taken known source h.units h.last h.took));
-    because = elim h.because [
-      | inl (why, every, held, few, back) ↦ inl (
-        (λ more. bytes_up_to (h.units ++ more) (every more)),
-        held,
-        (λ most bound. let within = least most bound in omega (arith, few, within)),
-        held_alike h.units (bytes_are h.units) back,
-      )
-      | inr (inl every) ↦ inr (inl (λ more. bytes_stopped e (h.units ++ more) (every more)))
-      | inr (inr (ends, stops)) ↦ inr (inr (all_bytes h.units h.last h.took ends, bytes_stopped e h.units stops))
-    ];
-  }
-
-  read-characters : IsStreamed bytes taken step (GivesCharacter known) (λ (s : Reading R). s.failure) (λ c. c) encode_utf8 found source f
-      old new → IsReadReplaced bytes taken step IsScalar encode_utf8_all left matches f old new
-  read-characters h = record {
-    units = h.units;
-    are = are_scalars known source h.units h.last h.took;
-    all = all_characters h.units h.last h.took (h.ended, h.ends, h.whole);
-    replaced =
-        let Q : List ℕ → List ℕ → Type 0 = λ text units. IsReplaced bytes taken text step (found units) f old new in
-        let M : (List ℕ → List (Match V)) → Type 0 = λ m. IsReplaced bytes taken (encode_utf8_all h.units) step (m h.units) f old new in
-        subst M alike
-        (subst (λ text. Q text h.units) (characters_are h.units)
-        (subst (λ units. Q (flat_map encode_utf8 h.units) units) (map-id h.units) h.replaced));
-  }
-
-  read-some_characters : {no_longer : ℕ → Type 0} (longest : ℕ) → ((most : ℕ) → no_longer most → longest ≤ most) → (e : Error)
-      → IsStreamedSoFar bytes taken step (GivesCharacter known) (λ (s : Reading R). s.failure) (λ c. c) encode_utf8 found longest e source f
-      old new
-      → IsReadReplacedSoFar bytes taken step IsScalar encode_utf8_all left matches no_longer e f old new
-  read-some_characters longest least e h = record {
-    units = h.units;
-    are = are_scalars known source h.units h.last h.took;
-    begins =
-        subst (λ o. IfSome o (λ l. (rest : List ℕ) × (l ≡ encode_utf8_all h.units ++ rest))) (starts_from known reads same)
-        (some_taken (to_give known source) (to_give known h.last) (encode_utf8_all h.units)
-        (characters_taken known source h.units h.last h.took));
-    because = elim h.because [
-      | inl (why, every, held, few, back) ↦ inl (
-        (λ more. characters_up_to (h.units ++ more) (every more)),
-        held,
-        (λ most bound. let within = least most bound in omega (arith, few, within)),
-        held_alike h.units (characters_are h.units) back,
-      )
-      | inr (inl every) ↦ inr (inl (λ more. characters_stopped e (h.units ++ more) (every more)))
-      | inr (inr (ends, stops)) ↦ inr (inr (all_characters h.units h.last h.took ends, characters_stopped e h.units stops))
-    ];
+  read-some : {no_longer : ℕ → Type 0} (longest : ℕ) → ((most : ℕ) → no_longer most → longest ≤ most) → (e : Error)
+      → IsStreamedSoFar bytes taken step steps failure unit form found longest e source f old new
+      → IsReadReplacedSoFar bytes taken step is_unit spelled left matches no_longer e f old new
+  read-some longest least e h = record {
+    units = map unit h.units;
+    are = (took source h.units h.last h.took).0;
+    begins = some_given h.units h.last h.took;
+    because =
+        let so_far : List ℕ → List (Match V) → Type 0 = λ text ms. IsReplacedSoFar bytes taken text step ms f old new in
+        let stopped : List ℕ → List (Match V) → Type 0 = λ text ms. IsStopped bytes taken text step e ms f old new in
+        elim h.because [
+          | inl (why, every, held, few, back) ↦ inl (
+            of_more so_far h.units every,
+            held,
+            (λ most bound. let within = least most bound in omega (arith, few, within)),
+            held_alike h.units back,
+          )
+          | inr (inl every) ↦ inr (inl (of_more stopped h.units every))
+          | inr (inr (end, stops)) ↦ inr (inr (all_given h.units h.last h.took end, of_units stopped h.units stops))
+        ];
   }
 
   -- whatever came of it
-  pub replaces-bytes : {no_longer : ℕ → Type 0} (longest : ℕ) → ((most : ℕ) → no_longer most → longest ≤ most)
-      → (r : Result (Unit {0}) Error)
-      → OnOk r (IsStreamed bytes taken step (GivesByte known) (λ (s : Reading R). s.failure) (λ b. b) (λ b. b ∷ []) found source f old new)
-      → IfErr r (λ e. IsStreamedSoFar bytes taken step (GivesByte known) (λ (s : Reading R). s.failure) (λ b. b) (λ b. b ∷ []) found longest
-      e source f old new)
-      → ReplacesRead bytes taken step (λ b. ⊤) (λ b. b) left matches no_longer r f old new
-  replaces-bytes longest least (Ok x) whole beginning = read-bytes whole
-  replaces-bytes longest least (Err e) whole beginning = read-some_bytes longest least e beginning
-
-  pub replaces-characters : {no_longer : ℕ → Type 0} (longest : ℕ) → ((most : ℕ) → no_longer most → longest ≤ most)
-      → (r : Result (Unit {0}) Error)
-      → OnOk r (IsStreamed bytes taken step (GivesCharacter known) (λ (s : Reading R). s.failure) (λ c. c) encode_utf8 found source f old
-      new)
-      → IfErr r (λ e. IsStreamedSoFar bytes taken step (GivesCharacter known) (λ (s : Reading R). s.failure) (λ c. c) encode_utf8 found
-      longest e source f old new)
-      → ReplacesRead bytes taken step IsScalar encode_utf8_all left matches no_longer r f old new
-  replaces-characters longest least (Ok x) whole beginning = read-characters whole
-  replaces-characters longest least (Err e) whole beginning = read-some_characters longest least e beginning
+  pub replaces-read : {no_longer : ℕ → Type 0} (longest : ℕ) → ((most : ℕ) → no_longer most → longest ≤ most) → (r : Result (Unit {0}) Error)
+      → OnOk r (IsStreamed bytes taken step steps failure unit form found source f old new)
+      → IfErr r (λ e. IsStreamedSoFar bytes taken step steps failure unit form found longest e source f old new)
+      → ReplacesRead bytes taken step is_unit spelled left matches no_longer r f old new
+  replaces-read longest least (Ok x) whole beginning = read-whole whole
+  replaces-read longest least (Err e) whole beginning = read-some longest least e beginning
 
 -- the longest is no longer than any bound of the keys
 pub longest-least : {V : Type 0} {width : ℕ → ℕ} {K : Dictionary V} {longest : ℕ} → IsLongest width K longest → (most : ℕ)

@@ -6,6 +6,7 @@ pub mod Replaced
 pub mod ReplacedWith
 pub mod Replacing
 pub mod Scans
+pub mod SourceLaws
 pub mod Searching
 pub mod Standings
 pub mod Streamed

@@ -16,4 +16,5 @@ pub mod replacing_standard;
 mod scan;
 mod search;
 pub mod searched;
+pub mod sources;
 pub mod stream_marks;

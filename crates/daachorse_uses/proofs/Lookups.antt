@@ -14,7 +14,7 @@ use Rattle.daachorse_model.specs.Matches.{ending_at, matches_after, matches_of}
 use Rattle.daachorse_model.specs.Units.{size, byte_width}
 use Rattle.daachorse_model.proofs.Longest.{leftmost_longest}
 use Rattle.daachorse_model.proofs.Suffixes.{size-bytes}
-use Rattle.daachorse_bytewise.specs.ByKind.{non_overlapping}
+use Rattle.daachorse.specs.ByKind.{non_overlapping}
 
 none_long : {A : Type 0} (xs : List A) → length xs ≡ 0 → xs ≡ []
 none_long [] e = refl

@@ -8,8 +8,8 @@ use Rattle.daachorse_model.specs.Folding.{as_read}
 use Rattle.daachorse_model.specs.Leftmost.{leftmost}
 use Rattle.daachorse_model.specs.Program.{with_numbers}
 use Rattle.daachorse_model.specs.Units.{byte_width}
-use Rattle.daachorse_bytewise.specs.Patterns.{AreIndexed}
-use Rattle.daachorse_bytewise.specs.Automata.{Automaton, dictionary_of}
+use Rattle.daachorse.specs.Patterns.{AreIndexed}
+use Rattle.daachorse.specs.bytewise.Automata.{Automaton, dictionary_of}
 use Rattle.daachorse_streams.specs.ByKind.{non_overlapping}
 use Rattle.daachorse_uses.specs.Copies.{CopiesRead, matches_of}
 use Rattle.daachorse_uses.specs.Secrets.{IsOfSecrets, dictionary_in, secrets_found, secrets_in, value_gives}

@@ -8,7 +8,7 @@ use Rattle.daachorse_model.specs.declared.Match.{Match}
 use Rattle.daachorse_model.specs.Dictionary.{Dictionary}
 use Rattle.daachorse_model.specs.Folding.{as_read}
 use Rattle.daachorse_model.specs.Units.{byte_width}
-use Rattle.daachorse_bytewise.specs.Automata.{Automaton, dictionary_of, kind_of}
+use Rattle.daachorse.specs.bytewise.Automata.{Automaton, dictionary_of, kind_of}
 use Rattle.daachorse_streams.specs.ByKind.{non_overlapping}
 use Rattle.daachorse_streams.specs.Replaced.{with_replacements}
 use Rattle.daachorse_streams.specs.Streams.{HasNoLonger, ReplacesRead}

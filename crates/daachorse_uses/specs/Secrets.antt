@@ -15,8 +15,8 @@ use Rattle.daachorse_model.specs.Dictionary.{Dictionary, dictionary}
 use Rattle.daachorse_model.specs.Leftmost.{leftmost}
 use Rattle.daachorse_model.specs.Program.{with_numbers}
 use Rattle.daachorse_model.specs.Units.{byte_width}
-use Rattle.daachorse_bytewise.specs.Automata.{Automaton}
-use Rattle.daachorse_bytewise.specs.Building.{IsBuildRefusal, IsBuiltOf}
+use Rattle.daachorse.specs.bytewise.Automata.{Automaton}
+use Rattle.daachorse.specs.bytewise.Building.{IsBuildRefusal, IsBuiltOf}
 
 -- its lines that are not empty
 abbrev pub secrets_in : List ℕ → List (List ℕ)

@@ -7,7 +7,7 @@ ghost use Rattle.daachorse_model.specs.declared.MatchKind.TheVariants.{Standard}
 ghost use Rattle.daachorse_model.specs.Folding.{as_read};
 ghost use Rattle.daachorse_model.specs.Matches.{standard};
 ghost use Rattle.daachorse_model.specs.Units.{byte_width};
-ghost use Rattle.daachorse_bytewise.specs.Automata.{dictionary_of, kind_of};
+ghost use Rattle.daachorse.specs.bytewise.Automata.{dictionary_of, kind_of};
 ghost use Rattle.daachorse_uses.specs.Covered.{AreMarks, FitsIn, is_within};
 
 use daachorse::{DoubleArrayAhoCorasick, Match};

@@ -2,10 +2,10 @@
 
 ghost use Rattle.std.specs.Prelude.{◌≡◌, ◌⊎◌, ◌++◌, ℕ, List, IfOk, IfErr, slice_get};
 ghost use Rattle.daachorse_model.specs.Folding.{as_read};
-ghost use Rattle.daachorse_bytewise.specs.Automata.{Automaton, dictionary_of};
-ghost use Rattle.daachorse_bytewise.specs.ReadForms.{GivesAutomaton, GivesNoAutomaton};
-ghost use Rattle.daachorse_bytewise.specs.Refusals.{IsOutOfMemory};
-ghost use Rattle.daachorse_bytewise.specs.WrittenForms.{IsAutomaton, written_form};
+ghost use Rattle.daachorse.specs.bytewise.Automata.{Automaton, dictionary_of};
+ghost use Rattle.daachorse.specs.bytewise.ReadForms.{GivesAutomaton, GivesNoAutomaton};
+ghost use Rattle.daachorse.specs.Refusals.{IsOutOfMemory};
+ghost use Rattle.daachorse.specs.bytewise.WrittenForms.{IsAutomaton, written_form};
 
 use daachorse::{DoubleArrayAhoCorasick, Result, Serializable};
 use std::alloc::Allocator;

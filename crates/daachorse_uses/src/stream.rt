@@ -6,8 +6,8 @@ ghost use Rattle.daachorse_model.specs.declared.MatchKind.TheVariants.{Standard}
 ghost use Rattle.daachorse_model.specs.Folding.{as_read};
 ghost use Rattle.daachorse_model.specs.Matches.{overlapping, standard};
 ghost use Rattle.daachorse_model.specs.Units.{byte_width, char_width};
-ghost use Rattle.daachorse_bytewise.specs.Automata as bytes;
-ghost use Rattle.daachorse_charwise.specs.Automata as characters;
+ghost use Rattle.daachorse.specs.bytewise.Automata as bytes;
+ghost use Rattle.daachorse.specs.charwise.Automata as characters;
 ghost use Rattle.daachorse_streams.specs.Replaced.{AppendsBeginning};
 ghost use Rattle.daachorse_search.specs.Readers.{IsLasting};
 ghost use Rattle.daachorse_uses.specs.Copies.{CopiesRead, IsCopiedWith, in_brackets, matches_of};

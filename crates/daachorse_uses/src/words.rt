@@ -2,7 +2,7 @@
 
 ghost use Rattle.std.specs.Prelude.{◌≡◌, count_by, fold, length, map, max};
 ghost use Rattle.std.specs.Option.{is_some};
-ghost use Rattle.daachorse_charwise.specs.Automata.{dictionary_of};
+ghost use Rattle.daachorse.specs.charwise.Automata.{dictionary_of};
 ghost use Rattle.daactok.specs.Tokens.{tokens};
 
 use daactok::Tokenizer;

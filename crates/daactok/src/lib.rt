@@ -18,7 +18,7 @@ ghost use Rattle.std.specs.List.{All, AllAdjacentBelow, flat_map};
 ghost use Rattle.std.specs.Result.{OkIff};
 ghost use Rattle.std.specs.Str.{IsCharBoundary};
 ghost use Rattle.daachorse_model.specs.declared.MatchKind.TheVariants.{Standard};
-ghost use Rattle.daachorse_charwise.specs.Automata.{dictionary_of, kind_of};
+ghost use Rattle.daachorse.specs.charwise.Automata.{dictionary_of, kind_of};
 ghost use Rattle.daactok.specs.Tokens.{IsKnownOne, piece, seen, tokens};
 
 use daachorse::charwise::iter::LeftmostFindIterator;
@@ -57,7 +57,7 @@ pub struct Tokenizer<'a, V: Copy, A: Allocator = Global> {
 impl<'a, V: Copy, A: Allocator> Model for Tokenizer<'a, V, A> {
     ghost use Rattle.std.specs.Prelude.{◌≡◌, ◌≢◌, []};
     ghost use Rattle.daachorse_model.specs.declared.MatchKind.TheVariants.{Standard};
-    ghost use Rattle.daachorse_charwise.specs.Automata.{Automaton, dictionary_of, kind_of};
+    ghost use Rattle.daachorse.specs.charwise.Automata.{Automaton, dictionary_of, kind_of};
 
     ghost Value = { Automaton V };
 
@@ -66,7 +66,7 @@ impl<'a, V: Copy, A: Allocator> Model for Tokenizer<'a, V, A> {
     ghost invariant = { λ t. (kind_of t.words.now ≢ Standard) × (dictionary_of t.words.now [] ≡ []) };
 }
 
-impl<'a, V: Copy, A: Allocator> Tokenizer<'a, V, A> {
+impl<'a, V: Copy, A: Allocator + Copy> Tokenizer<'a, V, A> {
     /// Makes a tokenizer for the words that the automaton holds. Its kind must be a leftmost one,
     /// and decides between words that start at the same place. Fails if the empty text is a word.
     pub fn new(words: &'a CharwiseDoubleArrayAhoCorasick<V, A>) -> Result<Self, TokenizerError>

@@ -2,7 +2,7 @@
 
 ghost use Rattle.std.specs.Prelude.{◌≡◌, IfOk};
 ghost use Rattle.daachorse_model.specs.declared.MatchKind.TheVariants.{LeftmostLongest};
-ghost use Rattle.daachorse_charwise.specs.Automata.{kind_of};
+ghost use Rattle.daachorse.specs.charwise.Automata.{kind_of};
 
 use daachorse::errors::DaachorseError;
 use daachorse::{CharwiseDoubleArrayAhoCorasick, CharwiseDoubleArrayAhoCorasickBuilder, MatchKind};

@@ -3,12 +3,12 @@
 ghost use Rattle.std.specs.Prelude.{◌≡◌, ◌⊎◌, ◌+◌, ℕ, List, IfErr, OnOk};
 ghost use Rattle.std.specs.Int.{w32};
 ghost use Rattle.std.specs.Io.KnownBytes.{Appends, Keeps};
-ghost use Rattle.daachorse_bytewise.specs.Refusals.{IsOutOfMemory};
+ghost use Rattle.daachorse.specs.Refusals.{IsOutOfMemory};
 ghost use Rattle.daachorse_model.specs.Program.{pattern_lines};
-ghost use Rattle.daachorse_bytewise.specs.Forms.{IsReadRefusal, take_number};
-ghost use Rattle.daachorse_bytewise.specs.Building.{IsBuildRefusal};
-ghost use Rattle.daachorse_bytewise.specs.ReadForms.{GivesNoAutomaton};
-ghost use Rattle.daachorse_bytewise.specs.Replaced.{AppendsBeginning};
+ghost use Rattle.daachorse.specs.Forms.{IsReadRefusal, take_number};
+ghost use Rattle.daachorse.specs.bytewise.Building.{IsBuildRefusal};
+ghost use Rattle.daachorse.specs.bytewise.ReadForms.{GivesNoAutomaton};
+ghost use Rattle.daachorse.specs.Replaced.{AppendsBeginning};
 ghost use Rattle.daacfind_command.specs.Modes.{kind_of_mode, text_of_mode};
 ghost use Rattle.daacfind_command.specs.Runs.{value_gives};
 ghost use Rattle.daacfind_command.specs.Written.{BeginsWithForm, IfRefused, IsFormOf, IsOfAnotherKind, IsTextBy, OnFailure, OnKind, OnRefusal};

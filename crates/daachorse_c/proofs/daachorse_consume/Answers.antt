@@ -5,10 +5,10 @@ use Rattle.daachorse_c.proofs.daachorse_consume.Goals as goal
 
 pub returns-in_default : goal.returns-in_default
 returns-in_default c = record {
-  told = search rules;
+  reported = search rules;
   refused = inr (EmptyHandle, c.number.ensures.is, inl (refl, subst IsNone (sym c.in_default.ensures.taken) refl));
   unchanged = search rules;
 }
 
 pub returns-in-Ok : goal.returns-in-Ok
-returns-in-Ok c = record { told = λ _. rw (c.in-Some.ensures.taken, c.put.ensures, ← c.deref_mut.ensures.value) c.in-Ok.ensures.consumed; refused = inl refl; unchanged = λ no. absurd (no refl) }
+returns-in-Ok c = record { reported = λ _. rw (c.in-Some.ensures.taken, c.put.ensures, ← c.deref_mut.ensures.value) c.in-Ok.ensures.consumed; refused = inl refl; unchanged = λ no. absurd (no refl) }

@@ -2,8 +2,8 @@
 use Rattle.std.proofs.Common.{ℕ, false, List, map, ◌∙◌, ap, sym, subst, inl, inr}
 use Rattle.std.proofs.lemmas.Result.{IfOk-weaker, IfErr-weaker}
 use Rattle.std.specs.Borrow.{Bor}
-use Rattle.daachorse_bytewise.specs.Building.{IsBuiltOf, IsBuildRefusal}
-use Rattle.daachorse_bytewise.specs.DaachorseError.{DaachorseError}
+use Rattle.daachorse.specs.bytewise.Building.{IsBuiltOf, IsBuildRefusal}
+use Rattle.daachorse.specs.DaachorseError.{DaachorseError}
 use Rattle.daachorse_model.specs.Program.{pattern_lines}
 use Rattle.daacfind_command.specs.Runs.{value_gives}
 use Rattle.daacfind_command.proofs.run.build.Goals as goal

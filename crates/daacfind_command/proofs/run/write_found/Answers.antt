@@ -4,8 +4,8 @@ use Rattle.std.specs.Prelude.{OnErr, OnOk}
 use Rattle.std.specs.Io.KnownBytes.{Appends}
 use Rattle.daachorse_model.specs.Folding.{as_read}
 use Rattle.daachorse_model.specs.Program.{match_text}
-use Rattle.daachorse_bytewise.specs.Automata.{Automaton, dictionary_of}
-use Rattle.daachorse_bytewise.specs.Replaced.{AppendsBeginning}
+use Rattle.daachorse.specs.bytewise.Automata.{Automaton, dictionary_of}
+use Rattle.daachorse.specs.Replaced.{AppendsBeginning}
 use Rattle.daacfind_command.specs.Modes.{found_by}
 use Rattle.daacfind_command.proofs.run.write_found.Goals as goal
 

@@ -2,8 +2,8 @@
 use Rattle.std.proofs.Common.{◌≡◌, List, ℕ, ◌-◌, take, drop, length, ap, sym, subst, ◌∙◌}
 use Rattle.std.proofs.lemmas.List.{take_rest}
 use Rattle.std.proofs.lemmas.Result.{err_from_is_err_and}
-use Rattle.daachorse_bytewise.specs.Replaced.{AppendsBeginning}
-use Rattle.daachorse_bytewise.proofs.Sending.{AppendsBeginning-more}
+use Rattle.daachorse.specs.Replaced.{AppendsBeginning}
+use Rattle.daachorse.proofs.Sending.{AppendsBeginning-more}
 use Rattle.daacfind_command.proofs.Gives.{text_whole, text_goes_on}
 use Rattle.daacfind_command.proofs.run.write_matches.Goals as goal
 

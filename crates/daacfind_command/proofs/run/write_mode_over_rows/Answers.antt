@@ -1,6 +1,6 @@
 -- The mode's iterator over rows gives what the mode finds.
-use Rattle.daachorse_bytewise.specs.LeftmostSearches.{StandsBehind}
-use Rattle.daachorse_bytewise.specs.Matches.{StandsAtEnd}
+use Rattle.daachorse.specs.LeftmostSearches.{StandsBehind}
+use Rattle.daachorse.specs.Matches.{StandsAtEnd}
 use Rattle.daachorse_model.specs.Units.{byte_width}
 use Rattle.daacfind_command.specs.declared.mode.Mode.TheVariants.{Overlapping, NoSuffix, Find, Longest, First}
 use Rattle.daacfind_command.proofs.Finds.{written_by}

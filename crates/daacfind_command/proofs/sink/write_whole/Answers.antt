@@ -1,6 +1,6 @@
 -- One write more: what it took joins what was taken before.
 use Rattle.std.proofs.Common.{rules}
-use Rattle.daachorse_bytewise.proofs.Sending.{Appends-more}
+use Rattle.daachorse.proofs.Sending.{Appends-more}
 use Rattle.daacfind_command.proofs.sink.write_whole.Goals as goal
 
 pub loop-rest-preserved : goal.loop-rest-preserved

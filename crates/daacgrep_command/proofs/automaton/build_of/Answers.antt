@@ -3,8 +3,8 @@ use Rattle.std.proofs.Common.{ℕ, List, map, ◌∙◌, ap, sym, subst, inl, in
 use Rattle.std.proofs.lemmas.Result.{IfErr-weaker}
 use Rattle.std.specs.Borrow.{Bor}
 use Rattle.daachorse_model.specs.Folding.{all_as_read}
-use Rattle.daachorse_bytewise.specs.Building.{IsBuildRefusal}
-use Rattle.daachorse_bytewise.specs.DaachorseError.{DaachorseError}
+use Rattle.daachorse.specs.bytewise.Building.{IsBuildRefusal}
+use Rattle.daachorse.specs.DaachorseError.{DaachorseError}
 use Rattle.daacfind_command.specs.Runs.{value_gives}
 use Rattle.daacgrep_command.proofs.automaton.build_of.Goals as goal
 

@@ -1,7 +1,7 @@
 -- The search is that of the kind.
 use Rattle.std.proofs.Common.{◌∙◌, ap, sym}
 use Rattle.daachorse_model.specs.Folding.{as_read}
-use Rattle.daachorse_bytewise.specs.Automata.{dictionary_of, kind_of}
+use Rattle.daachorse.specs.bytewise.Automata.{dictionary_of, kind_of}
 use Rattle.daacgrep_command.specs.Sought.{matches_by}
 use Rattle.daacgrep_command.proofs.Selected.{leftmost_named}
 use Rattle.daacgrep_command.proofs.searcher.rowed_matches.Goals as goal

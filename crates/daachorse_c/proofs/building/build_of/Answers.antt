@@ -4,7 +4,7 @@ use Rattle.std.proofs.lemmas.Simd.{map-map}
 use Rattle.std.specs.Borrow.{Bor}
 use Rattle.daachorse_model.specs.Dictionary.{registrations_of}
 use Rattle.daachorse_model.specs.Folding.{all_as_read}
-use Rattle.daachorse_bytewise.specs.Building.{kept_filter}
+use Rattle.daachorse.specs.bytewise.Building.{kept_filter}
 use Rattle.daachorse_c.specs.declared.unit.Unit.{Unit}
 use Rattle.daachorse_c.specs.Automata.{Bytes}
 use Rattle.daachorse_c.specs.Building.{IsBuiltOf}

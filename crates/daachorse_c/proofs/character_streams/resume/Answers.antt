@@ -1,4 +1,4 @@
--- What was told stays told, also at the end.
+-- What was reported stays reported, also at the end.
 use Rattle.std.proofs.Common.{◌≡◌, false, true, sym, ◌∙◌, subst}
 use Rattle.daachorse_model.specs.Units.{char_width}
 use Rattle.daachorse_charwise_states.specs.Valid.{sees}
@@ -9,16 +9,16 @@ use Rattle.daachorse_c.proofs.Steppers.{find-resumed, leftmost-kept}
 use Rattle.daachorse_c.proofs.character_streams.resume.Goals as goal
 use Rattle.daachorse_c.proofs.character_streams.resume.Goals.{then-ended, else-ended}
 
-pub returns-in-Find-clause-told : goal.returns-in-Find-clause-told
-returns-in-Find-clause-told c = let resumed = c.resume.ensures in rw c.in-Find.is (find-resumed char_width (wide Character) sees c.resume.result (resumed.automaton ∙ c.standard.ensures) resumed.read resumed.told)
+pub returns-in-Find-clause-reported : goal.returns-in-Find-clause-reported
+returns-in-Find-clause-reported c = let resumed = c.resume.ensures in rw c.in-Find.is (find-resumed char_width (wide Character) sees c.resume.result (resumed.automaton ∙ c.standard.ensures) resumed.read resumed.reported)
 
-pub returns-after-ended-clause-told : goal.returns-after-ended-clause-told
-returns-after-ended-clause-told c =
+pub returns-after-ended-clause-reported : goal.returns-after-ended-clause-reported
+returns-after-ended-clause-reported c =
     let resumed = c.resume_leftmost_stream-stream in
     rw c.in-Leftmost.is
-    (λ told has. let given = subst (λ s. HasGiven char_width sees s told) (sym resumed.ensures) has in elim c.if-ended.branch [
+    (λ reported has. let given = subst (λ s. HasGiven char_width sees s reported) (sym resumed.ensures) has in elim c.if-ended.branch [
       | then-ended w ↦
           let end = w.end.ensures in
-          rw w.stream-is (leftmost-kept char_width sees resumed.result w.end.new.self end.automaton told given end.read end.given (λ unended. let no : true ≡ false = sym end.ended ∙ unended in cc))
+          rw w.stream-is (leftmost-kept char_width sees resumed.result w.end.new.self end.automaton reported given end.read end.given (λ unended. let no : true ≡ false = sym end.ended ∙ unended in cc))
       | else-ended w ↦ rw w.stream-is given
     ])

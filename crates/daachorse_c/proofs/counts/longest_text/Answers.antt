@@ -6,7 +6,7 @@ use Rattle.std.specs.Str.{chars}
 use Rattle.daachorse_model.specs.Prefixes.{IsListing}
 use Rattle.daachorse_model.specs.Units.{char_width, size}
 use Rattle.daachorse_haystack.proofs.TextLaws.{size-chars}
-use Rattle.daachorse_charwise.specs.Automata.{dictionary_of}
+use Rattle.daachorse.specs.charwise.Automata.{dictionary_of}
 use Rattle.daachorse_c.proofs.counts.longest_text.Goals as goal
 
 abbrev greatest : List (List ℕ × ℕ) → ℕ → ℕ

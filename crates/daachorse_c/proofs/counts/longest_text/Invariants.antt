@@ -4,7 +4,7 @@ use Rattle.std.specs.Prelude.{max}
 use Rattle.std.specs.List.{fold}
 use Rattle.daachorse_model.specs.Prefixes.{IsListing}
 use Rattle.daachorse_model.specs.Units.{char_width, size}
-use Rattle.daachorse_charwise.specs.Automata.{dictionary_of}
+use Rattle.daachorse.specs.charwise.Automata.{dictionary_of}
 use Rattle.daachorse_c.proofs.counts.longest_text.Given as goal
 
 abbrev pub invariant-loop-item : goal.invariant-loop-item

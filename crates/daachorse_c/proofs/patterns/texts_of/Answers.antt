@@ -3,7 +3,7 @@ use Rattle.std.proofs.Common.{◌≡◌, ℕ, ◌+◌, List, take, refl, sym, ap
 use Rattle.std.specs.Borrow.{Bor}
 use Rattle.std.proofs.lemmas.List.{take_all}
 use Rattle.daachorse_model.specs.Dictionary.{registrations_of}
-use Rattle.daachorse_charwise.specs.Building.{registrations_of_strings}
+use Rattle.daachorse.specs.charwise.Building.{registrations_of_strings}
 use Rattle.daachorse_c.specs.declared.unit.Unit.TheVariants.{Character}
 use Rattle.daachorse_c.specs.Patterns.{AreTexts}
 use Rattle.daachorse_c.proofs.Texts.{spelled-next, text-at, texts-are, texts-next}

@@ -1,7 +1,7 @@
 -- The texts so far are the first patterns.
 use Rattle.std.proofs.Common.{◌≡◌, take}
 use Rattle.daachorse_model.specs.Dictionary.{registrations_of}
-use Rattle.daachorse_charwise.specs.Building.{registrations_of_strings}
+use Rattle.daachorse.specs.charwise.Building.{registrations_of_strings}
 use Rattle.daachorse_c.specs.declared.unit.Unit.TheVariants.{Character}
 use Rattle.daachorse_c.specs.Patterns.{AreTexts}
 use Rattle.daachorse_c.proofs.patterns.texts_of.Given as goal

@@ -7,7 +7,7 @@ use Rattle.daachorse_model.specs.Matches.{standard}
 use Rattle.daachorse_model.specs.Units.{byte_width}
 use Rattle.daachorse_model.proofs.FoldLaws.{length-as_read}
 use Rattle.daachorse_model.proofs.Suffixes.{size-bytes}
-use Rattle.daachorse_bytewise.specs.Automata.{dictionary_of}
+use Rattle.daachorse.specs.bytewise.Automata.{dictionary_of}
 use Rattle.daachorse_uses.specs.Covered.{AreMarks, FitsIn, is_within}
 use Rattle.daachorse_uses.proofs.Growing.{told}
 use Rattle.daachorse_uses.proofs.Marks.{found_fits, longer, none_marked, some_marked, whole_run}

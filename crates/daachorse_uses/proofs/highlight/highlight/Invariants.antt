@@ -3,7 +3,7 @@ use Rattle.std.proofs.Common.{◌≡◌, length}
 use Rattle.daachorse_model.specs.Folding.{as_read}
 use Rattle.daachorse_model.specs.Matches.{standard}
 use Rattle.daachorse_model.specs.Units.{byte_width}
-use Rattle.daachorse_bytewise.specs.Automata.{dictionary_of, states_of}
+use Rattle.daachorse.specs.bytewise.Automata.{dictionary_of, states_of}
 use Rattle.daachorse_uses.specs.Covered.{AreMarks}
 use Rattle.daachorse_uses.proofs.highlight.highlight.Given as goal
 

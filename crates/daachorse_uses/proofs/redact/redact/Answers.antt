@@ -1,6 +1,6 @@
 -- One match more is within the text, and its part was filled with stars.
 use Rattle.std.proofs.Common.{◌++◌, ◌∷◌, [], sym, ap, ◌∙◌, append_assoc, arith}
-use Rattle.daachorse_bytewise.specs.Automata.{dictionary_of}
+use Rattle.daachorse.specs.bytewise.Automata.{dictionary_of}
 use Rattle.daachorse_uses.proofs.Covers.{filled_more, leftmost_fits}
 use Rattle.daachorse_uses.proofs.redact.redact.Goals as goal
 

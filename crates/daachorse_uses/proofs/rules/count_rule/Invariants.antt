@@ -3,7 +3,7 @@ use Rattle.std.proofs.Common.{◌≡◌, ◌==◌, ◌++◌, ◌^◌, ◌-◌, c
 use Rattle.daachorse_model.specs.Folding.{as_read}
 use Rattle.daachorse_model.specs.Matches.{overlapping}
 use Rattle.daachorse_model.specs.Units.{byte_width}
-use Rattle.daachorse_bytewise.specs.Automata.{dictionary_of}
+use Rattle.daachorse.specs.bytewise.Automata.{dictionary_of}
 use Rattle.daachorse_uses.proofs.rules.count_rule.Given as goal
 
 abbrev pub invariant-loop-found : goal.invariant-loop-found

@@ -7,7 +7,7 @@ use Rattle.std.proofs.lemmas.List.{map-id}
 use Rattle.std.specs.Prelude.{length, not, ◌==◌}
 use Rattle.daachorse_model.specs.declared.MatchKind.TheVariants.{LeftmostLongest}
 use Rattle.daachorse_model.specs.Folding.{all_as_read}
-use Rattle.daachorse_bytewise.specs.Building.{IsBuildRefusal, IsBuiltOf}
+use Rattle.daachorse.specs.bytewise.Building.{IsBuildRefusal, IsBuiltOf}
 use Rattle.daachorse_uses.specs.Secrets.{secrets_in, value_gives}
 use Rattle.daachorse_uses.proofs.Listed.{listed, listed_or}
 use Rattle.daachorse_uses.proofs.stream.automaton_of.Goals as goal

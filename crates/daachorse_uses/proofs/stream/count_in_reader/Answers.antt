@@ -3,7 +3,7 @@ use Rattle.std.proofs.Common.{[], refl, sym, subst}
 use Rattle.std.proofs.lemmas.Result.{err_from_is_err_and}
 use Rattle.daachorse_model.specs.Matches.{matches_after}
 use Rattle.daachorse_model.specs.Units.{byte_width}
-use Rattle.daachorse_bytewise.specs.Automata.{dictionary_of, states_of}
+use Rattle.daachorse.specs.bytewise.Automata.{dictionary_of, states_of}
 use Rattle.daachorse_search.specs.Beginnings.{BeginsReading}
 use Rattle.daachorse_search.specs.Readers.{IsLasting}
 use Rattle.daachorse_uses.proofs.ReadFound.{all_counted, error_lasts, none_counted, one_counted}

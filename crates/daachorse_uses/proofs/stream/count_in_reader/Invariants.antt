@@ -1,7 +1,7 @@
 -- The matches so far were counted.
 use Rattle.daachorse_model.specs.Matches.{matches_after}
 use Rattle.daachorse_model.specs.Units.{byte_width}
-use Rattle.daachorse_bytewise.specs.Automata.{dictionary_of, states_of}
+use Rattle.daachorse.specs.bytewise.Automata.{dictionary_of, states_of}
 use Rattle.daachorse_uses.proofs.ReadFound.{Counts}
 use Rattle.daachorse_uses.proofs.stream.count_in_reader.Given as goal
 

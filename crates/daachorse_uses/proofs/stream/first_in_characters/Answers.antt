@@ -11,7 +11,7 @@ use Rattle.daachorse_model.specs.Matches.{standard}
 use Rattle.daachorse_model.specs.Units.{char_width, size}
 use Rattle.daachorse_model.proofs.FoldLaws.{size-as_read}
 use Rattle.daachorse_model.proofs.Suffixes.{size-push}
-use Rattle.daachorse_charwise.specs.Automata.{dictionary_of, states_of}
+use Rattle.daachorse.specs.charwise.Automata.{dictionary_of, states_of}
 use Rattle.daachorse_uses.specs.Found.{IsFirstGiven, IsFirstMatch}
 use Rattle.daachorse_uses.proofs.Growing.{all-far, first_given, looked_none, none-more, some-first, some-more, told}
 use Rattle.daachorse_uses.proofs.Marks.{some_run, whole_run}

@@ -3,7 +3,7 @@ use Rattle.std.proofs.Common.{◌≡◌, []}
 use Rattle.daachorse_model.specs.Folding.{as_read}
 use Rattle.daachorse_model.specs.Matches.{standard}
 use Rattle.daachorse_model.specs.Units.{char_width}
-use Rattle.daachorse_charwise.specs.Automata.{dictionary_of, states_of}
+use Rattle.daachorse.specs.charwise.Automata.{dictionary_of, states_of}
 use Rattle.daachorse_uses.proofs.stream.first_in_characters.Given as goal
 
 abbrev pub invariant-loop-character : goal.invariant-loop-character

@@ -5,7 +5,7 @@ use Rattle.daachorse_model.specs.Folding.{as_read}
 use Rattle.daachorse_model.specs.Matches.{at_each_end, standard_after}
 use Rattle.daachorse_model.specs.Units.{byte_width}
 use Rattle.daachorse_model.proofs.StandardEnds.{standard-joined}
-use Rattle.daachorse_bytewise.specs.Automata.{dictionary_of, states_of}
+use Rattle.daachorse.specs.bytewise.Automata.{dictionary_of, states_of}
 use Rattle.daachorse_streams.specs.ByKind.{non_overlapping}
 use Rattle.daachorse_search.specs.Readers.{IsLasting}
 use Rattle.daachorse_uses.specs.Copies.{matches_of}

@@ -1,7 +1,7 @@
 -- Each call that returns no error writes the text.
 use Rattle.std.proofs.Common.{rules}
 use Rattle.std.specs.Prelude.{⊤}
-use Rattle.daachorse_bytewise.specs.Automata.{dictionary_of}
+use Rattle.daachorse.specs.bytewise.Automata.{dictionary_of}
 use Rattle.daachorse_uses.specs.Copies.{CopiesRead, WritesText, in_brackets, matches_of}
 use Rattle.daachorse_uses.proofs.Copies.{copied}
 use Rattle.daachorse_uses.proofs.Weaker.{replaces_read}

@@ -1,7 +1,7 @@
 -- Each call writes the text, or at an error a beginning of it.
 use Rattle.std.proofs.Common.{rules, codes}
 use Rattle.std.specs.Prelude.{⊤}
-use Rattle.daachorse_bytewise.specs.Automata.{dictionary_of}
+use Rattle.daachorse.specs.bytewise.Automata.{dictionary_of}
 use Rattle.daachorse_streams.specs.Replaced.{AppendsBeginning}
 use Rattle.daachorse_uses.specs.Copies.{CopiesRead, WritesText, matches_of}
 use Rattle.daachorse_uses.proofs.Copies.{copied}

@@ -1,7 +1,7 @@
 -- The words among the tokens so far were counted, and behind these come those that are left.
 use Rattle.std.proofs.Common.{◌≡◌, ◌++◌, count_by, map}
 use Rattle.std.specs.Option.{is_some}
-use Rattle.daachorse_charwise.specs.Automata.{dictionary_of}
+use Rattle.daachorse.specs.charwise.Automata.{dictionary_of}
 use Rattle.daactok.specs.Tokens.{seen, tokens}
 use Rattle.daachorse_uses.proofs.words.count_words.Given as goal
 

@@ -2,9 +2,9 @@
 use Rattle.std.proofs.Common.{refl, subst, Option}
 use Rattle.daachorse_model.specs.declared.Match.{Match}
 use Rattle.daachorse_model.specs.Units.{char_width}
-use Rattle.daachorse_charwise.specs.Automata.{dictionary_of}
-use Rattle.daachorse_charwise.specs.LeftmostSearches.{StandsBehind}
-use Rattle.daachorse_charwise.specs.Matches.{GivesFirst}
+use Rattle.daachorse.specs.charwise.Automata.{dictionary_of}
+use Rattle.daachorse.specs.LeftmostSearches.{StandsBehind}
+use Rattle.daachorse.specs.Matches.{GivesFirst}
 use Rattle.daactok.proofs.EmptyText.{empty_key, no_empty_key}
 use Rattle.daactok.proofs.Tokenizer.new.Goals as goal
 

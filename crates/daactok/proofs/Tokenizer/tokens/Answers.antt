@@ -4,7 +4,7 @@ use Rattle.std.specs.Str.{chars}
 use Rattle.daachorse_model.specs.Folding.{as_read}
 use Rattle.daachorse_model.specs.Leftmost.{leftmost}
 use Rattle.daachorse_model.specs.Units.{char_width}
-use Rattle.daachorse_charwise.specs.Automata.{dictionary_of}
+use Rattle.daachorse.specs.charwise.Automata.{dictionary_of}
 use Rattle.daactok.specs.Tokens.{tokens_from}
 use Rattle.daactok.proofs.Parts.{parts_of_search, tokens_of_search}
 use Rattle.daactok.proofs.Tokenizer.tokens.Goals as goal

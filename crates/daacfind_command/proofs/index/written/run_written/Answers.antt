@@ -5,18 +5,18 @@ use Rattle.std.specs.Result.{IsErrAnd}
 use Rattle.std.specs.Int.{w32}
 use Rattle.std.specs.Io.KnownBytes.{Appends}
 use Rattle.std.proofs.KnownBytes.{Appends-kept}
-use Rattle.daachorse_bytewise.proofs.Refusals.{at_error}
+use Rattle.daachorse.proofs.Refusals.{at_error}
 use mathlib.Core.Bool.{not}
 use denote.Enum.Bare.{sameb}
 use Rattle.daachorse_model.specs.contracts.MatchKind.{the_type}
 use Rattle.daachorse_model.specs.declared.MatchKind.{MatchKind}
 use Rattle.daachorse_model.specs.Folding.{as_read}
 use Rattle.daachorse_model.specs.Program.{match_text}
-use Rattle.daachorse_bytewise.specs.Forms.{take_number}
-use Rattle.daachorse_bytewise.specs.Refusals.{IsOutOfMemory}
-use Rattle.daachorse_bytewise.specs.Automata.{Automaton as Searches, dictionary_of, kind_of}
-use Rattle.daachorse_bytewise.specs.ReadForms.{GivesAutomaton}
-use Rattle.daachorse_bytewise.specs.Replaced.{AppendsBeginning}
+use Rattle.daachorse.specs.Forms.{take_number}
+use Rattle.daachorse.specs.Refusals.{IsOutOfMemory}
+use Rattle.daachorse.specs.bytewise.Automata.{Automaton as Searches, dictionary_of, kind_of}
+use Rattle.daachorse.specs.bytewise.ReadForms.{GivesAutomaton}
+use Rattle.daachorse.specs.Replaced.{AppendsBeginning}
 use Rattle.daacfind_command.specs.declared.mode.Mode.{Mode}
 use Rattle.daacfind_command.specs.declared.index.written.IndexError.{IndexError}
 use Rattle.daacfind_command.specs.declared.index.written.IndexError.TheVariants.{Refused, Write}

@@ -4,11 +4,11 @@ use Rattle.std.specs.Prelude.{Result}
 use Rattle.std.specs.Result.{IsErrAnd}
 use Rattle.std.specs.Io.KnownBytes.{Keeps}
 use Rattle.std.proofs.KnownBytes.{Appends-kept, Keeps-refl}
-use Rattle.daachorse_bytewise.proofs.Refusals.{at_error}
+use Rattle.daachorse.proofs.Refusals.{at_error}
 use Rattle.daachorse_model.specs.declared.MatchKind.{MatchKind}
 use Rattle.daachorse_model.specs.Program.{pattern_lines}
-use Rattle.daachorse_bytewise.specs.Building.{IsBuildRefusal}
-use Rattle.daachorse_bytewise.specs.Replaced.{AppendsBeginning}
+use Rattle.daachorse.specs.bytewise.Building.{IsBuildRefusal}
+use Rattle.daachorse.specs.Replaced.{AppendsBeginning}
 use Rattle.daacfind_command.specs.declared.mode.Mode.{Mode}
 use Rattle.daacfind_command.specs.declared.index.written.IndexError.{IndexError}
 use Rattle.daacfind_command.specs.declared.index.written.IndexError.TheVariants.{Refused, Write}

@@ -1,6 +1,6 @@
 -- What searches is the automaton that is shown.
 use Rattle.std.proofs.Common.{◌≡◌, ℕ, ap, ◌∙◌}
-use Rattle.daachorse_bytewise.specs.Automata.{Automaton}
+use Rattle.daachorse.specs.bytewise.Automata.{Automaton}
 use Rattle.daacgrep_command.specs.Printed.{occurs}
 use Rattle.daacgrep_command.specs.Sought.{sought_of}
 use Rattle.daacgrep_command.proofs.Selected.{occurs_so}

@@ -1,6 +1,6 @@
 -- What searches is the automaton that is shown.
 use Rattle.std.proofs.Common.{◌≡◌, ℕ, ap, ◌∙◌}
-use Rattle.daachorse_bytewise.specs.Automata.{Automaton}
+use Rattle.daachorse.specs.bytewise.Automata.{Automaton}
 use Rattle.daacgrep_command.specs.Sought.{matches_in, sought_of}
 use Rattle.daacgrep_command.proofs.searcher.Searcher.matches.Goals as goal
 

@@ -1,7 +1,7 @@
 -- The copy has rows, or there is no room for those of the automaton.
 use Rattle.std.proofs.Common.{◌≡◌, false, IfOk, refl, ◌∙◌, subst}
 use Rattle.daachorse_bytewise_states.specs.StateRows.{HasNoRoom}
-use Rattle.daachorse_bytewise.specs.Automata.{states_of}
+use Rattle.daachorse.specs.bytewise.Automata.{states_of}
 use Rattle.daachorse_c.specs.declared.bytewise.Bytewise.TheVariants.{Plain, Rowed}
 use Rattle.daachorse_c.specs.Held.{has_byte_rows, over_bytes}
 use Rattle.daachorse_c.proofs.Rows.{rows_or_no_room}

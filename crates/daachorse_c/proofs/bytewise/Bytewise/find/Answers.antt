@@ -3,7 +3,7 @@ use Rattle.std.proofs.Common.{◌≡◌}
 use Rattle.std.proofs.lemmas.Iterator.Consumers.{YieldsList-from_first}
 use Rattle.daachorse_model.specs.Folding.{as_read}
 use Rattle.daachorse_model.specs.Units.{byte_width}
-use Rattle.daachorse_bytewise.specs.Automata.{dictionary_of}
+use Rattle.daachorse.specs.bytewise.Automata.{dictionary_of}
 use Rattle.daachorse_search.specs.Matches.{StandsAtEnd}
 use Rattle.daachorse_search.specs.LeftmostSearches.{StandsBehind}
 use Rattle.daachorse_search.proofs.MatchesLaws.{YieldsList-from_progress}

@@ -1,7 +1,7 @@
 -- The copy has rows, or there is no room for those of the automaton.
 use Rattle.std.proofs.Common.{◌≡◌, false, IfOk, refl, ◌∙◌, subst}
 use Rattle.daachorse_charwise_states.specs.StateRows.{HasNoRoom}
-use Rattle.daachorse_charwise.specs.Automata.{states_of}
+use Rattle.daachorse.specs.charwise.Automata.{states_of}
 use Rattle.daachorse_c.specs.declared.charwise.Charwise.TheVariants.{Plain, Rowed}
 use Rattle.daachorse_c.specs.Held.{has_character_rows, over_characters}
 use Rattle.daachorse_c.proofs.Rows.{rows_or_no_room}

@@ -4,7 +4,7 @@ use Rattle.std.proofs.lemmas.Iterator.Consumers.{YieldsList-from_first}
 use Rattle.std.specs.Str.{chars}
 use Rattle.daachorse_model.specs.Folding.{as_read}
 use Rattle.daachorse_model.specs.Units.{char_width}
-use Rattle.daachorse_charwise.specs.Automata.{dictionary_of}
+use Rattle.daachorse.specs.charwise.Automata.{dictionary_of}
 use Rattle.daachorse_search.specs.Matches.{StandsAtEnd}
 use Rattle.daachorse_search.specs.LeftmostSearches.{StandsBehind}
 use Rattle.daachorse_search.proofs.MatchesLaws.{YieldsList-from_progress}

@@ -1,7 +1,7 @@
--- Each pattern that the automaton gives comes behind those before it.
+-- Each pattern that the automaton gives comes after those before it.
 use Rattle.std.proofs.Common.{◌≡◌, ℕ, List, ◌∷◌, [], ◌++◌, sym, ap, ◌∙◌, subst, append_assoc, refl, rules, arith}
 use Rattle.daachorse_model.specs.Prefixes.{IsListing}
-use Rattle.daachorse_bytewise.specs.Automata.{dictionary_of}
+use Rattle.daachorse.specs.bytewise.Automata.{dictionary_of}
 use Rattle.daachorse_patterns.proofs.Keys.{all-push}
 use Rattle.daachorse_c.specs.declared.unit.Unit.TheVariants.{Byte}
 use Rattle.daachorse_c.specs.Listing.{arrays, entries, one_more}

@@ -1,8 +1,8 @@
--- Each pattern that the automaton gives comes behind those before it.
+-- Each pattern that the automaton gives comes after those before it.
 use Rattle.std.proofs.Common.{◌≡◌, ℕ, List, ◌∷◌, [], ◌++◌, sym, ap, ◌∙◌, subst, append_assoc, refl, rules, arith}
 use Rattle.std.specs.Str.{chars}
 use Rattle.daachorse_model.specs.Prefixes.{IsListing}
-use Rattle.daachorse_charwise.specs.Automata.{dictionary_of}
+use Rattle.daachorse.specs.charwise.Automata.{dictionary_of}
 use Rattle.daachorse_patterns.proofs.Keys.{all-push}
 use Rattle.daachorse_c.specs.declared.unit.Unit.TheVariants.{Character}
 use Rattle.daachorse_c.specs.Listing.{arrays, entries, one_more}

@@ -1,7 +1,7 @@
 -- What was counted and what is left is the listing.
 use Rattle.std.proofs.Common.{◌≡◌, ◌++◌, length}
 use Rattle.daachorse_model.specs.Prefixes.{IsListing}
-use Rattle.daachorse_charwise.specs.Automata.{dictionary_of}
+use Rattle.daachorse.specs.charwise.Automata.{dictionary_of}
 use Rattle.daachorse_c.specs.declared.unit.Unit.TheVariants.{Character}
 use Rattle.daachorse_c.specs.Listing.{Arrays, AreWhole, Fits, IsKeptWithin, arrays_of, entries}
 use Rattle.daachorse_c.specs.Patterns.{AreTexts, texts_in}

@@ -1,4 +1,4 @@
--- What is found in the rest of the haystack is what is left, and the place moves behind its first match.
+-- What is found in the rest of the haystack is what is left, and the place moves after its first match.
 use Rattle.std.proofs.Common.{refl, arith}
 use Rattle.daachorse_c.specs.Held.{haystack_of, searched}
 use Rattle.daachorse_c.proofs.Places.{is_first, none_first, pass_none, pass_some, some_first, step_within}

@@ -1,4 +1,4 @@
--- Each match is replaced behind what comes before it.
+-- Each match is replaced after what comes before it.
 use Rattle.std.proofs.Common.{ℕ, ◌≤◌, List, ◌++◌, drop, length, slice_range, sym, ap, ◌∙◌, subst, arith}
 use Rattle.std.proofs.lemmas.List.{take_rest}
 use Rattle.daachorse_model.specs.declared.Match.{Match}
@@ -8,7 +8,7 @@ use Rattle.daachorse_c.specs.Automata.{Reads}
 use Rattle.daachorse_c.specs.Held.{haystack_of, searched}
 use Rattle.daachorse_c.specs.Places.{left_of}
 use Rattle.daachorse_c.specs.Replacing.{IsCut, replaced_by, replacement}
-use Rattle.daachorse_c.proofs.Cut.{IsBegun, all_begun, begun_more, begun_nothing}
+use Rattle.daachorse_c.proofs.Cut.{IsBegun, all_partial, partial_more, partial_nothing}
 use Rattle.daachorse_c.proofs.Places.{begins, left_parts, left_whole}
 use Rattle.daachorse_c.proofs.searching.Search.replace.Goals as goal
 
@@ -21,9 +21,9 @@ loop-found-init c =
     record {
       within = begins a h reads;
       parts = left_parts a h reads;
-      begun = subst
+      partial = subst
           (λ ms. IsBegun (replaced_by bytes ends h a) (with_replacements_from (replacement bytes ends h) h 0 ms) c.args.out.now
-          c.args.out.now 0) (sym whole) (begun_nothing (replaced_by bytes ends h a) c.args.out.now);
+          c.args.out.now 0) (sym whole) (partial_nothing (replaced_by bytes ends h a) c.args.out.now);
     }
 
 pub loop-found-smaller : goal.loop-found-smaller
@@ -51,14 +51,14 @@ loop-found-preserved c =
     let rest = with_replacements_from r h m.end (left_of a h c.next_match.new.place) in
     let from = λ (ms : List (Match ℕ)). IsBegun (replaced_by bytes ends h a) (with_replacements_from r h c.loop-found.behind ms)
     c.args.out.now c.loop-found.out c.loop-found.size in
-    let before = begun_more (slice_range h c.loop-found.behind m.start) (r m ++ rest)
-    (subst from c.in-Some.ensures.some c.loop-found.invariant.begun)
+    let before = partial_more (slice_range h c.loop-found.behind m.start) (r m ++ rest)
+    (subst from c.in-Some.ensures.some c.loop-found.invariant.partial)
     (subst (λ x. Puts (slice_range x c.loop-found.behind m.start) c.loop-found.size c.put-size.result c.loop-found.out c.put-size.new.out)
     c.bytes-haystack.ensures.bytes c.put-size.ensures) in
     record {
       within = c.next_match.ensures.within;
       parts = (subst (AreParts (λ i. i ≤ length h) c.loop-found.behind) c.in-Some.ensures.some c.loop-found.invariant.parts).4;
-      begun = begun_more (r m) rest before (rw (← c.bytes-haystack.ensures.bytes, ← c.instead_of.ensures) c.put-size-in-Some.ensures);
+      partial = partial_more (r m) rest before (rw (← c.bytes-haystack.ensures.bytes, ← c.instead_of.ensures) c.put-size-in-Some.ensures);
     }
 
 pub returns : goal.returns
@@ -67,6 +67,6 @@ returns c =
     let ends = c.args.texts.ends.now in
     let from = λ (ms : List (Match ℕ)). IsBegun (replaced_by bytes ends h a)
     (with_replacements_from (replacement bytes ends h) h c.loop-found.behind ms) c.args.out.now c.loop-found.out c.loop-found.size in
-    all_begun (drop c.loop-found.behind h) (subst from c.in_default.ensures.none.0 c.loop-found.invariant.begun)
+    all_partial (drop c.loop-found.behind h) (subst from c.in_default.ensures.none.0 c.loop-found.invariant.partial)
     (subst (λ x. Puts x c.loop-found.size c.put.result c.loop-found.out c.put.new.out)
     (take_rest _ c.loop-found.behind ∙ ap (drop c.loop-found.behind) c.bytes-haystack.ensures.bytes) c.put.ensures)

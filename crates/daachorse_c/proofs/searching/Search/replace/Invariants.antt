@@ -1,4 +1,4 @@
--- What comes before the place is put in front, with its matches replaced, and what comes behind it is left.
+-- What comes before the place is put in front, with its matches replaced, and what comes after it is left.
 use Rattle.std.proofs.Common.{◌≤◌, length}
 use Rattle.daachorse_streams.specs.Replaced.{AreParts, with_replacements_from}
 use Rattle.daachorse_c.specs.Held.{haystack_of, searched}
@@ -12,7 +12,7 @@ invariant-loop-found l =
     let a = searched l.self in let texts = l.texts in let h = haystack_of l.self in let left = left_of a h l.place in record {
       within : IsPlaceIn a h l.place.at;
       parts : AreParts (λ i. i ≤ length h) l.behind left;
-      begun : IsBegun (replaced_by texts.bytes.now texts.ends.now h a)
+      partial : IsBegun (replaced_by texts.bytes.now texts.ends.now h a)
           (with_replacements_from (replacement texts.bytes.now texts.ends.now h) h l.behind left) l.fn.out l.out l.size;
     }
 

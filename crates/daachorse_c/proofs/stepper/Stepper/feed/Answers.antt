@@ -8,37 +8,37 @@ use Rattle.daachorse_model.proofs.FoldLaws.{size-as_read}
 use Rattle.daachorse_model.proofs.Suffixes.{size-append}
 use Rattle.daachorse_c.specs.Streams.{KnowsEnd, folds_in, read_in}
 use Rattle.daachorse_c.specs.Units.{spelled_in}
-use Rattle.daachorse_c.proofs.Fed.{begun_none, fed-open, fed-whole, nothing_read, spells-nothing}
+use Rattle.daachorse_c.proofs.Fed.{partial_none, fed-open, fed-whole, nothing_read, spells-nothing}
 use Rattle.daachorse_c.proofs.stepper.Stepper.feed.Goals as goal
 use Rattle.daachorse_c.proofs.stepper.Stepper.feed.Goals.{in-Open, in-Whole}
 
 pub loop-written-init : goal.loop-written-init
 loop-written-init g c =
-    let tells = c.tell-written.ensures in record {
-      over = tells.over;
-      folds = tells.folds;
-      search = tells.search;
-      dictionary = tells.dictionary;
-      end = λ ended knows unended. tells.end ended knows;
-      begun = c.requires.begun;
+    let reports = c.report-written.ensures in record {
+      over = reports.over;
+      folds = reports.folds;
+      search = reports.search;
+      dictionary = reports.dictionary;
+      end = λ ended knows unended. reports.end ended knows;
+      partial = c.requires.partial;
       within = omega arith;
-      long = c.tell-written.auto.out;
-      room = tells.room;
-      quiet = tells.quiet;
-      sized = omega (arith, ap (size g.S.Unit.EdgeLabel.width) tells.read);
-      fed = λ told has. record {
+      long = c.report-written.auto.out;
+      room = reports.room;
+      quiet = reports.quiet;
+      sized = omega (arith, ap (size g.S.Unit.EdgeLabel.width) reports.read);
+      fed = λ reported has. record {
         within = omega arith;
         units = [];
-        spells = spells-nothing g.S.Unit.StreamUnit.which c.args.begun.now c.requires.begun;
-        read = tells.read ∙ sym (append-nil _) ∙ ap (λ l. read_in c.args.self.now ++ l) (sym (nothing_read _));
-        tells = tells.told told has;
-        quiet = tells.quiet;
+        spells = spells-nothing g.S.Unit.StreamUnit.which c.args.partial.now c.requires.partial;
+        read = reports.read ∙ sym (append-nil _) ∙ ap (λ l. read_in c.args.self.now ++ l) (sym (nothing_read _));
+        reports = reports.reported reported has;
+        quiet = reports.quiet;
         needed = λ n none. absurd (omega (arith, none));
       };
     }
 
 pub push-requires : goal.push-requires
-push-requires g c = c.loop-written.invariant.begun
+push-requires g c = c.loop-written.invariant.partial
 
 pub consume-requires-clause-quiet : goal.consume-requires-clause-quiet
 consume-requires-clause-quiet g c = let i = c.loop-written.invariant in i.quiet (omega (arith, i.long, c.loop-written-test.true))
@@ -49,19 +49,19 @@ consume-requires-clause-unended g c =
     c.loop-written.invariant.end false (c.requires.unended some) (λ _. refl)
 
 -- the bytes of a unit are as many as it is wide
-one_sized : (spelled : List ℕ → List ℕ) (width : ℕ → ℕ) → ((w : List ℕ) → length (spelled w) ≡ size width w) → (begun : List ℕ) (byte u : ℕ) → begun ++ byte ∷ [] ≡ spelled (u ∷ []) → length begun + 1 ≡ width u
-one_sized spelled width sized begun byte u is = omega (arith, ap length is, sized (u ∷ []), length-append begun (byte ∷ []))
+one_sized : (spelled : List ℕ → List ℕ) (width : ℕ → ℕ) → ((w : List ℕ) → length (spelled w) ≡ size width w) → (partial : List ℕ) (byte u : ℕ) → partial ++ byte ∷ [] ≡ spelled (u ∷ []) → length partial + 1 ≡ width u
+one_sized spelled width sized partial byte u is = omega (arith, ap length is, sized (u ∷ []), length-append partial (byte ∷ []))
 
 pub consume-requires-clause-fits : goal.consume-requires-clause-fits
 consume-requires-clause-fits g c =
     let i = c.loop-written.invariant in
-    let one = one_sized (spelled_in g.S.Unit.StreamUnit.which) g.S.Unit.EdgeLabel.width g.met.S.Unit.StreamUnit.sized c.loop-written.begun _ (g.S.Unit.EdgeLabel.unit c.in-Whole.unit) c.in-Whole.ensures in
+    let one = one_sized (spelled_in g.S.Unit.StreamUnit.which) g.S.Unit.EdgeLabel.width g.met.S.Unit.StreamUnit.sized c.loop-written.partial _ (g.S.Unit.EdgeLabel.unit c.in-Whole.unit) c.in-Whole.ensures in
     omega (arith, one, i.sized, c.requires.fits, c.if-taken-bytes.true)
 
 pub overflow_add-written : goal.overflow_add-written
 overflow_add-written g c =
     let i = c.loop-written.invariant in let n = c.loop-written.written in let out = c.loop-written.out in
-    omega (arith, i.long, i.room, c.tell-written-in-Whole.ensures.room, ap length (take_rest out n), length-drop n out, c.loop-written-test.true, c.loop-written.auto.written-fits, c.well_formed)
+    omega (arith, i.long, i.room, c.report-written-in-Whole.ensures.room, ap length (take_rest out n), length-drop n out, c.loop-written-test.true, c.loop-written.auto.written-fits, c.well_formed)
 
 pub loop-written-preserved : goal.loop-written-preserved
 loop-written-preserved g c =
@@ -73,66 +73,66 @@ loop-written-preserved g c =
     elim c.match-push.branch [
       | in-Open w ↦
           let kept = w.in-Open.ensures in
-          rw (w.self-is, w.begun-is, w.out-is, w.written-is)
+          rw (w.self-is, w.partial-is, w.out-is, w.written-is)
           (record {
             over = i.over;
             folds = i.folds;
             search = i.search;
             dictionary = i.dictionary;
             end = i.end;
-            begun = rw kept.0 kept.1;
+            partial = rw kept.0 kept.1;
             within = omega (arith, c.if-taken-bytes.true);
             long = i.long;
             room = i.room;
             quiet = i.quiet;
-            sized = omega (arith, i.sized, ap length kept.0, length-append c.loop-written.begun (byte ∷ []));
-            fed = λ told has. fed-open (i.fed told has) c.if-taken-bytes.true room unended i.search i.dictionary _ kept;
+            sized = omega (arith, i.sized, ap length kept.0, length-append c.loop-written.partial (byte ∷ []));
+            fed = λ reported has. fed-open (i.fed reported has) c.if-taken-bytes.true room unended i.search i.dictionary _ kept;
           })
       | in-Whole w ↦
-          let consumed = w.consume.ensures in let tells = w.tell-written-in-Whole.ensures in let u = g.S.Unit.EdgeLabel.unit w.in-Whole.unit in
+          let consumed = w.consume.ensures in let reports = w.report-written-in-Whole.ensures in let u = g.S.Unit.EdgeLabel.unit w.in-Whole.unit in
           let rest = ap length (take_rest out n) ∙ length-drop n out in
-          let one = one_sized (spelled_in which) width g.met.S.Unit.StreamUnit.sized c.loop-written.begun byte u w.in-Whole.ensures in
-          let last = w.tell-written-in-Whole.new.self in
-          let long = same_len_mid n (length out - n) out w.tell-written-in-Whole.new.out w.tell-written-in-Whole.auto.out ∙ i.long in
-          rw (w.self-is, w.begun-is, w.out-is, w.written-is)
+          let one = one_sized (spelled_in which) width g.met.S.Unit.StreamUnit.sized c.loop-written.partial byte u w.in-Whole.ensures in
+          let last = w.report-written-in-Whole.new.self in
+          let long = same_len_mid n (length out - n) out w.report-written-in-Whole.new.out w.report-written-in-Whole.auto.out ∙ i.long in
+          rw (w.self-is, w.partial-is, w.out-is, w.written-is)
           (record {
-            over = λ a b first. tells.over a b (consumed.over a b (i.over a b first));
-            folds = tells.folds ∙ consumed.folds ∙ i.folds;
-            search = tells.search ∙ consumed.search ∙ i.search;
-            dictionary = tells.dictionary ∙ consumed.dictionary ∙ i.dictionary;
-            end = λ ended knows open_end. tells.end ended (subst (λ e. KnowsEnd e w.consume.new.self) (sym (open_end some)) consumed.unended);
-            begun = rw w.none.ensures (begun_none which);
+            over = λ a b first. reports.over a b (consumed.over a b (i.over a b first));
+            folds = reports.folds ∙ consumed.folds ∙ i.folds;
+            search = reports.search ∙ consumed.search ∙ i.search;
+            dictionary = reports.dictionary ∙ consumed.dictionary ∙ i.dictionary;
+            end = λ ended knows open_end. reports.end ended (subst (λ e. KnowsEnd e w.consume.new.self) (sym (open_end some)) consumed.unended);
+            partial = rw w.none.ensures (partial_none which);
             within = omega (arith, c.if-taken-bytes.true);
             long = long;
-            room = omega (arith, tells.room, rest, i.long, room);
-            quiet = λ lt. tells.quiet (omega (arith, rest, i.long, lt));
+            room = omega (arith, reports.room, rest, i.long, room);
+            quiet = λ lt. reports.quiet (omega (arith, rest, i.long, lt));
             sized = omega (
               arith,
               i.sized,
               one,
               ap length w.none.ensures,
-              ap (size width) (tells.read ∙ consumed.read),
+              ap (size width) (reports.read ∙ consumed.read),
               size-append width (read_in c.loop-written.self) (as_read (folds_in c.loop-written.self) (u ∷ [])),
               size-as_read width g.met.S.Unit.AsciiFold.as_wide (folds_in c.loop-written.self) (u ∷ []),
             );
-            fed = λ told has.
-                let f = i.fed told has in
-                fed-whole f c.if-taken-bytes.true room unended i.search i.dictionary _ u w.consume.new.self last w.tell-written-in-Whole.new.out w.tell-written-in-Whole.result
-                w.none.ensures w.in-Whole.ensures consumed.read i.folds tells.read (consumed.told _ f.tells.told) tells.told tells.quiet i.long rest;
+            fed = λ reported has.
+                let f = i.fed reported has in
+                fed-whole f c.if-taken-bytes.true room unended i.search i.dictionary _ u w.consume.new.self last w.report-written-in-Whole.new.out w.report-written-in-Whole.result
+                w.none.ensures w.in-Whole.ensures consumed.read i.folds reports.read (consumed.reported _ f.reports.reported) reports.reported reports.quiet i.long rest;
           })
     ]
 
 pub returns-else-taken-bytes-clause-feeds : goal.returns-else-taken-bytes-clause-feeds
-returns-else-taken-bytes-clause-feeds g c told has =
-    let f = c.loop-written.invariant.fed told has in
-    record { within = f.within; units = f.units; spells = f.spells; read = f.read; tells = f.tells; quiet = f.quiet; needed = f.needed; full = λ lt. absurd (omega (arith, lt, c.if-taken-bytes.false)) }
+returns-else-taken-bytes-clause-feeds g c reported has =
+    let f = c.loop-written.invariant.fed reported has in
+    record { within = f.within; units = f.units; spells = f.spells; read = f.read; reports = f.reports; quiet = f.quiet; needed = f.needed; full = λ lt. absurd (omega (arith, lt, c.if-taken-bytes.false)) }
 
 pub returns-after-loop-written-clause-feeds : goal.returns-after-loop-written-clause-feeds
-returns-after-loop-written-clause-feeds g c told has =
-    let i = c.loop-written.invariant in let f = i.fed told has in
-    record { within = f.within; units = f.units; spells = f.spells; read = f.read; tells = f.tells; quiet = f.quiet; needed = f.needed; full = λ lt. inl (omega (arith, i.long, i.room, c.loop-written-test.false)) }
+returns-after-loop-written-clause-feeds g c reported has =
+    let i = c.loop-written.invariant in let f = i.fed reported has in
+    record { within = f.within; units = f.units; spells = f.spells; read = f.read; reports = f.reports; quiet = f.quiet; needed = f.needed; full = λ lt. inl (omega (arith, i.long, i.room, c.loop-written-test.false)) }
 
 pub returns-in-Wrong-clause-feeds : goal.returns-in-Wrong-clause-feeds
-returns-in-Wrong-clause-feeds g c told has =
-    let f = c.loop-written.invariant.fed told has in
-    record { within = f.within; units = f.units; spells = f.spells; read = f.read; tells = f.tells; quiet = f.quiet; needed = f.needed; full = λ lt. inr c.in-Wrong.ensures }
+returns-in-Wrong-clause-feeds g c reported has =
+    let f = c.loop-written.invariant.fed reported has in
+    record { within = f.within; units = f.units; spells = f.spells; read = f.read; reports = f.reports; quiet = f.quiet; needed = f.needed; full = λ lt. inr c.in-Wrong.ensures }

@@ -29,7 +29,7 @@ use Rattle.daachorse_model.specs.Folding.{as_read}
 use Rattle.daachorse_model.specs.Units.{byte_width, char_width, size}
 use Rattle.daachorse_model.proofs.FoldLaws.{length-as_read, size-as_read}
 use Rattle.daachorse_model.proofs.Suffixes.{size-bytes}
-use Rattle.daachorse_streams.proofs.ReadLaws.{characters_are}
+use Rattle.daachorse_streams.specs.SourceLaws.{characters_are}
 use Rattle.daachorse_streams.specs.Streamed.{HasSkipped}
 use Rattle.daachorse_streams.proofs.AdvancingLaws.{all_scalars, consumes-front}
 use Rattle.daachorse_streams.proofs.block_source.CharBlockUnit.skip_front.Given as given

@@ -7,7 +7,7 @@ use Rattle.daachorse_model.specs.Folding.{as_read}
 use Rattle.daachorse_model.specs.Units.{byte_width, size}
 use Rattle.daachorse_model.proofs.FoldLaws.{length-as_read}
 use Rattle.daachorse_model.proofs.Suffixes.{size-bytes}
-use Rattle.daachorse_streams.proofs.ReadLaws.{bytes_are}
+use Rattle.daachorse_streams.specs.SourceLaws.{bytes_are}
 use Rattle.daachorse_streams.specs.Streamed.{HasSkipped}
 use Rattle.daachorse_streams.proofs.AdvancingLaws.{consumes-front}
 use Rattle.daachorse_streams.proofs.block_source.U8BlockUnit.skip_front.Goals as goal

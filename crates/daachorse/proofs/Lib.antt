@@ -1,0 +1,9 @@
+pub use Rattle.daachorse_core.proofs.Refusals
+pub use Rattle.daachorse_streams.proofs.Sending
+pub use Rattle.daachorse_search.proofs.MatchesLaws
+pub mod BuildLaws
+pub mod CodedLaws
+pub mod CountLaws
+pub mod TextLaws
+pub mod Beginnings
+pub mod WrittenLaws

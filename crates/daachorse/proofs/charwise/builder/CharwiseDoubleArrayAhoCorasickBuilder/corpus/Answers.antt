@@ -1,0 +1,11 @@
+-- The documents are all that the iterator gives, each copied.
+use Rattle.std.proofs.Common.{ℕ, List, map, ap, ◌∙◌}
+use Rattle.std.specs.Borrow.{Bor}
+use Rattle.std.specs.Str.{chars}
+use Rattle.daachorse.proofs.charwise.builder.CharwiseDoubleArrayAhoCorasickBuilder.corpus.Goals as goal
+
+pub returns-clause-copies : goal.returns-clause-copies
+returns-clause-copies g c =
+    let r = c.in_ok-documents.ensures.ok in
+    let texts : List (Bor (List ℕ)) → List (List ℕ) = map (λ t. chars t.now) in
+    (c.into_iter.result, c.into_iter.ensures.into_iter_gives, (r.0, r.1, r.2, c.in_ok-copy_of.ensures.ok ∙ ap texts (c.deref.ensures.value ∙ r.3)))

@@ -1,0 +1,9 @@
+pub mod Accelerated
+pub mod Automata
+pub mod Building
+pub mod Frequencies
+pub mod ReadForms
+pub mod WrittenForms
+pub use Rattle.daachorse_charwise_states.specs.PartForms
+pub use Rattle.daachorse_charwise_states.specs.StateRows
+pub use Rattle.daachorse_charwise_states.specs.Texts

@@ -1,6 +1,0 @@
-pub mod CountLaws
-pub mod CodedLaws
-pub mod BuildLaws
-pub mod TextLaws
-pub use Rattle.daachorse_search.proofs.MatchesLaws
-pub mod Beginnings

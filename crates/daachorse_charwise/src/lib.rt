@@ -1,4 +1,0 @@
-//! The automaton over characters, its builder, and its searches.
-#![tactic(auto)]
-
-pub mod charwise;
